@@ -2,3 +2,8 @@
 pub mod Choice
 pub mod Rounding
 pub mod Crossing
+pub mod Algebra
+pub mod Sums
+pub mod Polynomial
+pub mod Ring
+pub mod Integer
