@@ -1,9 +1,12 @@
 -- The laws of this crate, for every crate above it.
 pub mod Choice
-pub mod Rounding
-pub mod Crossing
 pub mod Algebra
 pub mod Sums
-pub mod Polynomial
+pub mod Rounding
+pub mod Products
 pub mod Ring
+pub mod Polynomial
 pub mod Integer
+pub mod Crossing
+pub mod Parts
+pub mod Room

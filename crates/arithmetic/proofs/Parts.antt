@@ -1,0 +1,46 @@
+-- Lists in parts, in the shapes that loops, stores and lent parts of a table leave; over any element.
+--     drop-step, take-step         one element more, in the code's `i + 1`
+--     part-end, rest-end           a part from a place to the end is the rest; nothing lies after it
+--     store-next                   a list filled up to i, one store on
+--     part-filled                  a part lent from a on came back filled in front: the whole is filled so much further
+-- Assumes nothing.
+use mathlib.Core.Path.{_≡_, refl, sym, ap, _∙_}
+use mathlib.Core.List.{List, [], _∷_, _++_, append-assoc, append-nil}
+use Prim.Native.Nat.{ℕ, _+_, _-_, _<_, _≤_}
+use native.Mathlib.Numerals.{add-one}
+use native.Mathlib.Omega.{arith}
+use lib.ListN.{length, take, drop, getD, set, length-drop, length-append, drop-of-length-le}
+use lib.Seq.{take-suc, drop-cons, take-all, take-at, drop-at, drop-drop, set-at}
+
+module _ {A : Type 0} where
+  pub drop-step : (s : List A) (i : ℕ) (d : A) → i < length s → drop i s ≡ getD s i d ∷ drop (i + 1) s
+  drop-step s i d h = rw (add-one, drop-cons s i d)
+
+  pub take-step : (s : List A) (i : ℕ) (d : A) → i < length s → take (i + 1) s ≡ take i s ++ (getD s i d ∷ [])
+  take-step s i d h = rw add-one (take-suc s i d h)
+
+  pub part-end : (a : ℕ) (s : List A) → take (length s - a) (drop a s) ≡ drop a s
+  part-end a s = take-all (length s - a) (drop a s) (omega (arith, length-drop a s))
+
+  pub rest-end : (a : ℕ) (s : List A) → drop (length s - a) (drop a s) ≡ []
+  rest-end a s =
+      let h : length (drop a s) ≤ length s - a = omega (arith, length-drop a s) in drop-of-length-le (drop a s) h
+
+  -- `done` stands in front of what was there, and the next place is stored to
+  pub store-next : (done was : List A) (i : ℕ) (v : A) → length done ≡ i → i < length was → set (done ++ drop i was) i v ≡ (done ++ (v ∷ [])) ++ drop (i + 1) was
+  store-next done was i v e h =
+      ap (λ l. set (done ++ l) i v) (drop-step was i v h)
+      ∙ set-at done (getD was i v) (drop (i + 1) was) v i e
+      ∙ sym (append-assoc done (v ∷ []) (drop (i + 1) was))
+
+  -- `done` stands before place a, and the part from a on came back with `more` in front of what was there
+  pub part-filled :
+      (a k : ℕ) (done more s was back : List A)
+      → length done ≡ a
+      → s ≡ done ++ drop a was
+      → back ≡ more ++ drop k (take (length s - a) (drop a s))
+      → take a s ++ (back ++ drop (length s - a) (drop a s)) ≡ (done ++ more) ++ drop (a + k) was
+  part-filled a k done more s was back l e f =
+      let front : take a s ≡ done = rw (e, take-at done (drop a was) a l) in
+      let behind : drop a s ≡ drop a was = rw (e, drop-at done (drop a was) a l) in
+      rw (f, rest-end a s, part-end a s, front, behind, append-nil, drop-drop, append-assoc)
