@@ -1,5 +1,6 @@
 -- The crossing between a signed 64-bit number and a whole one. A signed local holds bits: every read of one shows as what is read back from its bits, `back v`.
 --     back, back-is                      what is read back is the number
+--     heard                              what a callee says of a number that it was handed
 --     is-negative-is                     the machine's test for below 0 is `isNegative`
 --     cast-defined                       the cast of a number that is not below 0
 --     Turned, turn                       the steps from a negative number to its magnitude
@@ -27,6 +28,10 @@ back v = toZ w64 (ofZ w64 v)
 
 pub back-is : {v : ℤ} → SFits w64 v → back v ≡ v
 back-is f = toZ-ofZ f
+
+-- what a callee says of what it read back, it says of the number
+pub heard : {X : Type 0} (f : ℤ → X) {v : ℤ} {r : X} → SFits w64 v → r ≡ f (back v) → r ≡ f v
+heard f h e = e ∙ ap f (back-is h)
 
 below-zero : (v : ℤ) → ltZ v (pos 0) ≡ isNegative v
 below-zero (pos n) = le-ltb n 0 (omega arith)

@@ -26,7 +26,6 @@ infixl 6 _:+_
 infixl 7 _:*_
 infixl 8 _:^_
 infixl 9 :-_
-
 -- functions of n arguments, such a function at the variables from x_i on, and a statement about every list of n values
 abbrev pub Of : ℕ → Type 0 → Type 0 → Type 0
 Of zero A B = B

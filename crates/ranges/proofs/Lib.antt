@@ -1,0 +1,4 @@
+-- The laws of this crate, for every crate above it.
+pub mod Table
+pub mod Outside
+pub mod Facts

@@ -1,0 +1,53 @@
+-- The ranges of every number of the offset file, section by section: the table of "The offset file", stated once.
+use Prim.Native.Nat.{ℕ, suc}
+use mathlib.Core.Bool.{Bool, true, false, _&&_}
+use mathlib.Core.List.{List, [], _∷_, _++_}
+use lib.Dec.{leb}
+use lib.IntN.{ℤ, pos, negsuc}
+use lib.ListN.{getD}
+
+infix 80 _to_
+infix 80 ±_
+-- "2..40" is 2 to 40; "−10,000..10,000" is ± 10_000
+pub data Range : Type 0 where
+  _to_ : ℕ → ℕ → Range
+  ±_ : ℕ → Range
+
+-- the least and the greatest of a range, from 0 on
+abbrev pub least : Range → ℕ
+least (a to b) = a
+least (± b) = 0
+
+abbrev pub most : Range → ℕ
+most (a to b) = b
+most (± b) = b
+
+unfoldable pub within : Range → ℤ → Bool
+within (a to b) (pos n) = leb a n && leb n b
+within (a to b) (negsuc n) = false
+within (± b) (pos n) = leb n b
+within (± b) (negsuc n) = leb (suc n) b
+
+-- n intervals of length; m intervals of draft; s mm between stations; d mm between waterlines; water density, kg/m³
+abbrev pub particulars : List Range
+particulars = 2 to 40 ∷ 3 to 20 ∷ 50 to 2_500 ∷ 10 to 500 ∷ 900 to 1_100 ∷ []
+
+-- mm
+abbrev pub halfBreadth : List Range
+halfBreadth = 0 to 8_000 ∷ []
+
+-- kg; x mm from station 0; y mm; z mm
+abbrev pub item : List Range
+item = 0 to 300_000 ∷ 0 to 100_000 ∷ ± 10_000 ∷ 0 to 30_000 ∷ []
+
+-- contents kg; capacity kg; x, y, z as for items; length mm; breadth mm; liquid density, kg/m³
+abbrev pub tank : List Range
+tank = 0 to 400_000 ∷ 1 to 400_000 ∷ 0 to 100_000 ∷ ± 10_000 ∷ 0 to 30_000 ∷ 1 to 10_000 ∷ 1 to 8_000 ∷ 1 to 1_500 ∷ []
+
+-- all fields in the file's order, by number: 0..4 particulars, 5 a half-breadth, 6..9 an item, 10..17 a tank
+abbrev pub fields : List Range
+fields = particulars ++ halfBreadth ++ item ++ tank
+
+-- no number is in the range of a field that there is not
+abbrev pub rangeOf : ℕ → Range
+rangeOf field = getD fields field (1 to 0)

@@ -1,0 +1,7 @@
+-- The paper's limits, refusals and outcomes, each stated once.
+pub mod Refusals
+pub mod Outcome
+pub mod Fields
+pub mod Outside
+pub mod InRange
+pub mod Sides

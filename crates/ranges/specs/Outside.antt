@@ -1,0 +1,25 @@
+-- Where the first number stands that is out of its range.
+use Prim.Native.Nat.{ℕ, zero, suc, _+_, _%_}
+use mathlib.Core.Bool.{Bool, true, false}
+use mathlib.Core.List.{List, [], _∷_, map}
+use lib.IntN.{ℤ, pos}
+use lib.ListN.{length, getD}
+use Rattle.arithmetic.specs.Choice.{if_then_else_}
+use Rattle.ranges.specs.Fields.{Range, _to_, within, particulars}
+use Rattle.ranges.specs.declared.Particulars.{Particulars}
+
+-- The place of the first number out of range, in a table of records whose first field is number `place` of the table; the place after the last where all are in range.
+-- A record's fields follow one another again and again: number i of the table is of field i modulo the record's width.
+unfoldable pub outsideFrom : List Range → ℕ → List ℤ → ℕ
+outsideFrom section place [] = place
+outsideFrom section place (v ∷ rest) =
+    if within (getD section (place % length section) (1 to 0)) v
+    then outsideFrom section (place + 1) rest
+    else place
+
+unfoldable pub firstOutside : List Range → List ℤ → ℕ
+firstOutside section table = outsideFrom section 0 table
+
+-- the particulars in the file's order
+abbrev pub numbersOf : Particulars → List ℤ
+numbersOf p = map pos (p .n ∷ p .m ∷ p .s ∷ p .d ∷ p .density ∷ [])

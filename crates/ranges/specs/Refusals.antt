@@ -1,0 +1,58 @@
+-- "Refusals by number": the paper's fourteen, by name.
+use Prim.Native.Nat.{ℕ}
+
+-- file over 16,384 bytes
+abbrev pub fileTooLong : ℕ
+fileTooLong = 1
+
+-- token is no number
+abbrev pub notANumber : ℕ
+notANumber = 2
+
+-- count not allowed
+abbrev pub countNotAllowed : ℕ
+countNotAllowed = 3
+
+-- number out of range
+abbrev pub outOfRange : ℕ
+outOfRange = 4
+
+-- file ends too early
+abbrev pub endsTooEarly : ℕ
+endsTooEarly = 5
+
+-- token after the last section, number or not
+abbrev pub tokenAfterEnd : ℕ
+tokenAfterEnd = 6
+
+-- lent table of the wrong size
+abbrev pub wrongSize : ℕ
+wrongSize = 7
+
+-- a row's displacement is 0, or not above the row before
+abbrev pub displacementNotRising : ℕ
+displacementNotRising = 8
+
+-- KM above 100,000
+abbrev pub metacentreTooHigh : ℕ
+metacentreTooHigh = 9
+
+-- row table not usable
+abbrev pub rowsNotUsable : ℕ
+rowsNotUsable = 10
+
+-- W below the first row
+abbrev pub tooLight : ℕ
+tooLight = 11
+
+-- W above the last row
+abbrev pub tooHeavy : ℕ
+tooHeavy = 12
+
+-- contents above capacity
+abbrev pub contentsAboveCapacity : ℕ
+contentsAboveCapacity = 13
+
+-- output room shorter than the text
+abbrev pub roomTooShort : ℕ
+roomTooShort = 14

@@ -1,0 +1,226 @@
+// The paper's limits, refusals and particulars: each number of the offset file against its range.
+ghost use mathlib.Core.Path.{_≡_};
+ghost use mathlib.Core.List.{map};
+ghost use lib.IntN.{pos};
+ghost use lib.ListN.{take, drop};
+ghost use Prim.Native.Nat.{_+_, _%_, _<_, _≤_};
+ghost use Rattle.ranges.specs.Fields.{within, rangeOf, fields, particulars, halfBreadth, item, tank};
+ghost use Rattle.ranges.specs.Outside.{firstOutside, numbersOf};
+ghost use Rattle.ranges.specs.Sides.{sidesOf};
+
+// A refusal: the paper's number for it, and its place.
+pub struct Refusal {
+    pub number: u64,
+    pub place: usize,
+}
+
+impl Refusal {
+    pub const FILE_TOO_LONG: u64 = 1;
+
+    pub const NOT_A_NUMBER: u64 = 2;
+
+    pub const COUNT_NOT_ALLOWED: u64 = 3;
+
+    pub const OUT_OF_RANGE: u64 = 4;
+
+    pub const ENDS_TOO_EARLY: u64 = 5;
+
+    pub const TOKEN_AFTER_END: u64 = 6;
+
+    pub const WRONG_SIZE: u64 = 7;
+
+    pub const DISPLACEMENT_NOT_RISING: u64 = 8;
+
+    pub const METACENTRE_TOO_HIGH: u64 = 9;
+
+    pub const ROWS_NOT_USABLE: u64 = 10;
+
+    pub const TOO_LIGHT: u64 = 11;
+
+    pub const TOO_HEAVY: u64 = 12;
+
+    pub const CONTENTS_ABOVE_CAPACITY: u64 = 13;
+
+    pub const ROOM_TOO_SHORT: u64 = 14;
+}
+
+// A hull's particulars: n intervals of length, m intervals of draft, s mm between stations, d mm between waterlines, and
+// the water's density in kg/m³.
+pub struct Particulars {
+    pub n: usize,
+    pub m: usize,
+    pub s: u64,
+    pub d: u64,
+    pub density: u64,
+}
+
+// A signed y in mm from the middle line as its two sides, one of which is 0.
+pub struct Sides {
+    pub port: u64,
+    pub starboard: u64,
+}
+
+// The fields of the file by number: the first of each section.
+pub const PARTICULARS: usize = 0;
+
+pub const HALF_BREADTH: usize = 5;
+
+pub const ITEM: usize = 6;
+
+pub const TANK: usize = 10;
+
+const FIELDS: usize = 18;
+
+// How many numbers an item and a tank have.
+pub const ITEM_WIDTH: usize = 4;
+
+pub const TANK_WIDTH: usize = 8;
+
+// The range of each field: its least number from 0 on, and its greatest.
+const LEAST: [u64; 18] = [2, 3, 50, 10, 900, 0, 0, 0, 0, 0, 0, 1, 0, 0, 0, 1, 1, 1];
+
+const GREATEST: [u64; 18] = [
+    40, // n
+    20, // m
+    2_500, // s
+    500, // d
+    1_100, // density
+    8_000, // half-breadth
+    300_000, // item: kg
+    100_000, // x
+    10_000, // y
+    30_000, // z
+    400_000, // tank: contents
+    400_000, // capacity
+    100_000, // x
+    10_000, // y
+    30_000, // z
+    10_000, // length
+    8_000, // breadth
+    1_500, // liquid density
+];
+
+// 1 for a field that may be below 0, as far as above: the two y.
+const SIGNED: [u64; 18] = [0, 0, 0, 0, 0, 0, 0, 0, 1, 0, 0, 0, 0, 1, 0, 0, 0, 0];
+
+// Whether a whole number is in a field's range.
+pub fn whole_in_range(field: usize, n: u64) -> bool
+    ensures { λ r. ⌜ r ≡ within (rangeOf field) (pos n) ⌝ }
+{
+    if FIELDS <= field {
+        return false;
+    }
+    if n < LEAST[field] {
+        return false;
+    }
+    n <= GREATEST[field]
+}
+
+// Whether a number of either sign is in a field's range.
+pub fn in_range(field: usize, v: i64) -> bool
+    ensures { λ r. ⌜ r ≡ within (rangeOf field) v ⌝ }
+{
+    let size = arithmetic::magnitude(v);
+    if arithmetic::is_negative(v) {
+        if FIELDS <= field {
+            return false;
+        }
+        if SIGNED[field] == 0 {
+            return false;
+        }
+        return size <= GREATEST[field];
+    }
+    whole_in_range(field, size)
+}
+
+// y's two sides.
+pub fn sides_of(y: i64) -> Sides
+    ensures { λ r. ⌜ r ≡ sidesOf y ⌝ }
+{
+    let size = arithmetic::magnitude(y);
+    if arithmetic::is_negative(y) {
+        return Sides {
+            port: size,
+            starboard: 0,
+        };
+    }
+    Sides {
+        port: 0,
+        starboard: size,
+    }
+}
+
+// The place of the first particular out of range, or 5.
+pub fn particular_outside(p: Particulars) -> usize
+    ensures { λ r. ⌜ r ≡ firstOutside particulars (numbersOf p) ⌝ }
+{
+    if !whole_in_range(PARTICULARS, p.n as u64) {
+        return 0;
+    }
+    if !whole_in_range(PARTICULARS + 1, p.m as u64) {
+        return 1;
+    }
+    if !whole_in_range(PARTICULARS + 2, p.s) {
+        return 2;
+    }
+    if !whole_in_range(PARTICULARS + 3, p.d) {
+        return 3;
+    }
+    if !whole_in_range(PARTICULARS + 4, p.density) {
+        return 4;
+    }
+    5
+}
+
+// The place of the first half-breadth out of range, or the table's length.
+pub fn half_breadth_outside(table: &[u64]) -> usize
+    ensures { λ r. ⌜ r ≡ firstOutside halfBreadth (map pos (now (table .entry))) ⌝ }
+{
+    let mut i = 0;
+    while i < table.len() {
+        if !whole_in_range(HALF_BREADTH, table[i]) {
+            return i;
+        }
+        i += 1;
+    }
+    i
+}
+
+// The place of the first number of a table of items out of range, or the table's length.
+pub fn item_outside(table: &[i64]) -> usize
+    ensures { λ r. ⌜ r ≡ firstOutside item (now (table .entry)) ⌝ }
+{
+    first_outside(table, ITEM, ITEM_WIDTH)
+}
+
+// The place of the first number of a table of tanks out of range, or the table's length.
+pub fn tank_outside(table: &[i64]) -> usize
+    ensures { λ r. ⌜ r ≡ firstOutside tank (now (table .entry)) ⌝ }
+{
+    first_outside(table, TANK, TANK_WIDTH)
+}
+
+// The same for the records whose fields are `width` from number `first` on.
+fn first_outside(table: &[i64], first: usize, width: usize) -> usize
+    requires { ⌜ (0 < width) × (first + width ≤ 18) ⌝ }
+    ensures { λ r. ⌜ r ≡ firstOutside (take width (drop first fields)) (now (table .entry)) ⌝ }
+{
+    let mut i = 0;
+    let mut field = 0;
+    while i < table.len() {
+        if !in_range(first + field, arithmetic::number_at(table, i)) {
+            return i;
+        }
+        field = field_after(field, width);
+        i += 1;
+    }
+    i
+}
+
+// The field after this one; after a record's last field, the first again.
+fn field_after(field: usize, width: usize) -> usize
+    requires { ⌜ field < width ⌝ }
+    ensures { λ r. ⌜ r ≡ (field + 1) % width ⌝ }
+{
+    if field + 1 == width { 0 } else { field + 1 }
+}
