@@ -1,4 +1,5 @@
 -- The laws of this crate, for every crate above it.
+pub mod Only
 pub mod Choice
 pub mod Algebra
 pub mod Sums
@@ -7,6 +8,7 @@ pub mod Products
 pub mod Ring
 pub mod Polynomial
 pub mod Integer
+pub mod Whole
 pub mod Crossing
 pub mod Parts
 pub mod Room

@@ -2,6 +2,7 @@
 pub mod Refusals
 pub mod Outcome
 pub mod Fields
+pub mod Sizes
 pub mod Outside
 pub mod InRange
 pub mod Sides

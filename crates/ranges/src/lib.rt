@@ -7,6 +7,7 @@ ghost use Prim.Native.Nat.{_+_, _%_, _<_, _≤_};
 ghost use Rattle.ranges.specs.Fields.{within, rangeOf, fields, particulars, halfBreadth, item, tank};
 ghost use Rattle.ranges.specs.Outside.{firstOutside, numbersOf};
 ghost use Rattle.ranges.specs.Sides.{sidesOf};
+ghost use Rattle.ranges.specs.Sizes.{wholeRecords, mostItems, mostTanks};
 
 // A refusal: the paper's number for it, and its place.
 pub struct Refusal {
@@ -71,10 +72,24 @@ pub const TANK: usize = 10;
 
 const FIELDS: usize = 18;
 
-// How many numbers an item and a tank have.
+// The most bytes of a file.
+pub const LONGEST_FILE: usize = 16_384;
+
+// How many numbers an item and a tank have, and how many of each there may be.
 pub const ITEM_WIDTH: usize = 4;
 
 pub const TANK_WIDTH: usize = 8;
+
+pub const MOST_ITEMS: usize = 32;
+
+pub const MOST_TANKS: usize = 16;
+
+// The room that holds the numbers of any file.
+pub const HALF_BREADTH_ROOM: usize = 861;
+
+pub const ITEM_ROOM: usize = 128;
+
+pub const TANK_ROOM: usize = 128;
 
 // The range of each field: its least number from 0 on, and its greatest.
 const LEAST: [u64; 18] = [2, 3, 50, 10, 900, 0, 0, 0, 0, 0, 0, 1, 0, 0, 0, 1, 1, 1];
@@ -200,7 +215,34 @@ pub fn tank_outside(table: &[i64]) -> usize
     first_outside(table, TANK, TANK_WIDTH)
 }
 
-// The same for the records whose fields are `width` from number `first` on.
+// Whether so many numbers are whole items, and no more than there may be.
+pub fn items_fit(count: usize) -> bool
+    ensures { λ r. ⌜ r ≡ wholeRecords 4 mostItems count ⌝ }
+{
+    whole_records(ITEM_WIDTH, MOST_ITEMS, count)
+}
+
+// Whether so many numbers are whole tanks, and no more than there may be.
+pub fn tanks_fit(count: usize) -> bool
+    ensures { λ r. ⌜ r ≡ wholeRecords 8 mostTanks count ⌝ }
+{
+    whole_records(TANK_WIDTH, MOST_TANKS, count)
+}
+
+// Whether so many numbers are whole records of a width, and no more than allowed; none are of no width.
+pub fn whole_records(width: usize, allowed: usize, count: usize) -> bool
+    ensures { λ r. ⌜ r ≡ wholeRecords width allowed count ⌝ }
+{
+    if width == 0 {
+        return count == 0;
+    }
+    if count % width == 0 {
+        return count / width <= allowed;
+    }
+    false
+}
+
+// The place of the first number out of range in a table of records whose fields are `width` from number `first` on.
 fn first_outside(table: &[i64], first: usize, width: usize) -> usize
     requires { ⌜ (0 < width) × (first + width ≤ 18) ⌝ }
     ensures { λ r. ⌜ r ≡ firstOutside (take width (drop first fields)) (now (table .entry)) ⌝ }

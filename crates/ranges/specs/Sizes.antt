@@ -1,0 +1,35 @@
+-- How many records and numbers there may be, and the room for them.
+use Prim.Native.Nat.{ℕ, _+_, _*_, _%_, _/_}
+use mathlib.Core.Bool.{Bool, _&&_}
+use lib.Dec.{leb, eqb}
+use lib.ListN.{length}
+use Rattle.ranges.specs.Fields.{rangeOf, most, item, tank}
+
+-- "Text of at most 16,384 bytes."
+abbrev pub longestFile : ℕ
+longestFile = 16_384
+
+-- "Items 0..32", "Tanks 0..16": "the counts of items and tanks count records"
+abbrev pub mostItems : ℕ
+mostItems = 32
+
+abbrev pub mostTanks : ℕ
+mostTanks = 16
+
+-- "(n+1)(m+1)" half-breadths
+abbrev pub pointsOf : ℕ → ℕ → ℕ
+pointsOf n m = (n + 1) * (m + 1)
+
+-- the reader's room, which holds the numbers of any file: 861, 128 and 128
+abbrev pub roomForHalfBreadths : ℕ
+roomForHalfBreadths = pointsOf (most (rangeOf 0)) (most (rangeOf 1))
+
+abbrev pub roomForItems : ℕ
+roomForItems = length item * mostItems
+
+abbrev pub roomForTanks : ℕ
+roomForTanks = length tank * mostTanks
+
+-- "whole records, at most 32 and 16": so many numbers are records of a width, and no more of them than allowed
+unfoldable pub wholeRecords : ℕ → ℕ → ℕ → Bool
+wholeRecords width allowed count = eqb (count % width) 0 && leb (count / width) allowed

@@ -1,0 +1,60 @@
+-- Laws of the sum over a curve.
+--     curve-same                   equal ordinates, equal sums
+--     curve-plus, curve-times      it is linear
+--     curve-mono                   ordinates never larger, a sum never larger
+--     curve-swap                   over a surface, either way first
+--     pos-curve                    the same over numbers of either sign
+--     curve-few                    nothing over fewer than two intervals, for which there is no rule
+-- How large it is, and what it is for a cubic: `Moments`. Assumes nothing.
+use mathlib.Core.Path.{_≡_, sym, ap, _∙_}
+use Prim.Native.Nat.{ℕ, zero, suc, _+_, _*_, _≤_, _<_}
+use native.Mathlib.Nat.{mul-add, mul-left-comm, mul-le-mul-left}
+use native.Mathlib.Omega.{arith}
+use lib.IntN.{pos}
+use Rattle.arithmetic.specs.Sum.{sumBy, sumTo}
+use Rattle.arithmetic.proofs.Algebra.{natural}
+use Rattle.arithmetic.proofs.Sums.{sum-same, sum-plus, times-sum, sum-swap, sum-mono}
+use Rattle.simpson.specs.Multipliers.{multiplier}
+use Rattle.arithmetic.proofs.Whole.{pos-sum}
+use Rattle.simpson.specs.Curve.{curve, curveℤ}
+
+module _ (n : ℕ) where
+  pub curve-same : (y z : ℕ → ℕ) → ((i : ℕ) → i ≤ n → y i ≡ z i) → curve n y ≡ curve n z
+  unfolding curve
+  curve-same y z h = sum-same natural (n + 1) _ _ (λ i l. ap (λ v. multiplier n i * v) (h i (omega arith)))
+
+  pub curve-plus : (y z : ℕ → ℕ) → curve n (λ i. y i + z i) ≡ curve n y + curve n z
+  unfolding curve
+  curve-plus y z =
+      sum-same natural (n + 1) _ (λ i. multiplier n i * y i + multiplier n i * z i) (λ i l. mul-add (multiplier n i) (y i) (z i))
+      ∙ sum-plus natural (n + 1) (λ i. multiplier n i * y i) (λ i. multiplier n i * z i)
+
+  pub curve-times : (a : ℕ) (y : ℕ → ℕ) → curve n (λ i. a * y i) ≡ a * curve n y
+  unfolding curve
+  curve-times a y =
+      sum-same natural (n + 1) _ (λ i. a * (multiplier n i * y i)) (λ i l. mul-left-comm (multiplier n i) a (y i))
+      ∙ times-sum natural (n + 1) a (λ i. multiplier n i * y i)
+
+  pub curve-mono : (y z : ℕ → ℕ) → ((i : ℕ) → i ≤ n → y i ≤ z i) → curve n y ≤ curve n z
+  unfolding curve
+  curve-mono y z h = sum-mono (n + 1) _ _ (λ i l. mul-le-mul-left (multiplier n i) (h i (omega arith)))
+
+pub curve-swap : (n m : ℕ) (y : ℕ → ℕ → ℕ) → curve n (λ i. curve m (λ j. y i j)) ≡ curve m (λ j. curve n (λ i. y i j))
+unfolding curve
+curve-swap n m y =
+    let term : ℕ → ℕ → ℕ = λ i j. multiplier n i * (multiplier m j * y i j) in
+    sum-same natural (n + 1) _ (λ i. sumTo (m + 1) (term i)) (λ i l. sym (times-sum natural (m + 1) (multiplier n i) (λ j. multiplier m j * y i j)))
+    ∙ sum-swap natural (n + 1) (m + 1) term
+    ∙ sum-same natural (m + 1) _ (λ j. multiplier m j * sumTo (n + 1) (λ i. multiplier n i * y i j))
+    (λ j l. sum-same natural (n + 1) _ _ (λ i l. mul-left-comm (multiplier n i) (multiplier m j) (y i j))
+    ∙ times-sum natural (n + 1) (multiplier m j) (λ i. multiplier n i * y i j))
+
+pub pos-curve : (n : ℕ) (y : ℕ → ℕ) → pos (curve n y) ≡ curveℤ n (λ i. pos (y i))
+unfolding curve curveℤ
+pos-curve n y = pos-sum (n + 1) (λ i. multiplier n i * y i)
+
+pub curve-few : (n : ℕ) (y : ℕ → ℕ) → n < 2 → curve n y ≡ 0
+unfolding curve sumBy multiplier
+curve-few zero y h = omega arith
+curve-few (suc zero) y h = omega arith
+curve-few (suc (suc n)) y h = absurd (omega arith)

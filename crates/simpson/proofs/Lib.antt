@@ -1,0 +1,8 @@
+-- The laws of this crate, for every crate above it.
+pub mod ByPlace
+pub mod Curves
+pub mod Front
+pub mod Exact
+pub mod Moments
+pub mod Running
+pub mod Figures

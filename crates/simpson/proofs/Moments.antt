@@ -1,0 +1,44 @@
+-- The sum over a cubic with whole coefficients, and what follows of the multipliers.
+--     curve-of-cubic                     24an + 12bn² + 8cn³ + 6en⁴
+--     curve-of-one, curve-of-place       two of its four instances: 24n, 12n²
+--     curve-of-square, curve-of-cube     and the other two: 8n³, 6n⁴
+--     curve-le                           a bound on each ordinate bounds the sum, by the rectangle's area
+-- Assumes nothing.
+use mathlib.Core.Path.{_≡_, ap, _∙_, fun-ext}
+use Prim.Native.Nat.{ℕ, zero, suc, _+_, _*_, _^_, _≤_}
+use native.Mathlib.Omega.{arith}
+use lib.IntN.{pos}
+use Rattle.simpson.specs.Curve.{curve, curveℤ}
+use Rattle.simpson.specs.Cubic.{cubic}
+use Rattle.simpson.proofs.Exact.{curveℤ-of-cubic}
+use Rattle.arithmetic.proofs.Whole.{pos-injective, pos-pow}
+use Rattle.simpson.proofs.Curves.{pos-curve, curve-same, curve-times, curve-mono, curve-few}
+
+module _ (n : ℕ) (h : 2 ≤ n) where
+  pub curve-of-cubic : (a b c e : ℕ) → curve n (λ i. a + b * i + c * i ^ 2 + e * i ^ 3) ≡ 24 * a * n + 12 * b * n ^ 2 + 8 * c * n ^ 3 + 6 * e * n ^ 4
+  curve-of-cubic a b c e =
+      let signed : (i : ℕ) → pos (a + b * i + c * i ^ 2 + e * i ^ 3) ≡ cubic (pos a) (pos b) (pos c) (pos e) (pos i) = λ i. rw (← pos-pow i 2, ← pos-pow i 3) in
+      pos-injective
+      (pos-curve n (λ i. a + b * i + c * i ^ 2 + e * i ^ 3)
+      ∙ ap (curveℤ n) (fun-ext signed)
+      ∙ curveℤ-of-cubic n h (pos a) (pos b) (pos c) (pos e)
+      ∙ rw (← pos-pow n 2, ← pos-pow n 3, ← pos-pow n 4))
+
+  pub curve-of-one : curve n (λ i. 1) ≡ 24 * n
+  curve-of-one = curve-same n _ _ (λ i l. omega arith) ∙ curve-of-cubic 1 0 0 0 ∙ omega arith
+
+  pub curve-of-place : curve n (λ i. i) ≡ 12 * n ^ 2
+  curve-of-place = curve-same n _ _ (λ i l. omega arith) ∙ curve-of-cubic 0 1 0 0 ∙ omega arith
+
+  pub curve-of-square : curve n (λ i. i ^ 2) ≡ 8 * n ^ 3
+  curve-of-square = curve-same n _ _ (λ i l. omega arith) ∙ curve-of-cubic 0 0 1 0 ∙ omega arith
+
+  pub curve-of-cube : curve n (λ i. i ^ 3) ≡ 6 * n ^ 4
+  curve-of-cube = curve-same n _ _ (λ i l. omega arith) ∙ curve-of-cubic 0 0 0 1 ∙ omega arith
+
+pub curve-le : (n b : ℕ) (y : ℕ → ℕ) → ((i : ℕ) → i ≤ n → y i ≤ b) → curve n y ≤ b * (24 * n)
+curve-le zero b y h = omega (arith, curve-few 0 y (omega arith))
+curve-le (suc zero) b y h = omega (arith, curve-few 1 y (omega arith))
+curve-le (suc (suc n)) b y h =
+    let m = suc (suc n) in
+    omega (arith, curve-mono m y (λ i. b * 1) (λ i l. omega (arith, h i l)), curve-times m b (λ i. 1), ap (λ s. b * s) (curve-of-one m (omega arith)))
