@@ -1,6 +1,7 @@
 -- The laws of this crate, for every crate above it.
 pub mod Only
 pub mod Choice
+pub mod Tests
 pub mod Algebra
 pub mod Sums
 pub mod Rounding

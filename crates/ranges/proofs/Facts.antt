@@ -18,7 +18,7 @@ use lib.IntN.{ℤ, pos, negsuc, natAbs, negℤ, _-ℤ_, +ℤ-idl, +ℤ-idr}
 use lib.ListN.{length, getD, List·getD-map, length-map}
 use Rattle.arithmetic.specs.Signed.{isNegative}
 use Rattle.arithmetic.specs.Choice.{if_then_else_}
-use Rattle.arithmetic.proofs.Choice.{chosen}
+use Rattle.arithmetic.proofs.Tests.{both}
 use Rattle.ranges.specs.Fields.{Range, _to_, ±_, within, least, most, rangeOf, particulars, halfBreadth}
 use Rattle.ranges.specs.Outside.{outsideFrom, firstOutside, numbersOf}
 use Rattle.ranges.specs.InRange.{ParticularsInRange, HalfBreadthsInRange}
@@ -71,10 +71,6 @@ all-within section table e i h = rw zero-add at (inside section 0 table (e ∙ s
 -- ---- what it says of a whole number
 between : (a b n : ℕ) → leb a n && leb n b ≡ true → (a ≤ n) × (n ≤ b)
 between a b n e = let h = both (leb a n) (leb n b) e in (leb-true a n (h .0), leb-true n b (h .1))
-  where
-    both : (s t : Bool) → s && t ≡ true → (s ≡ true) × (t ≡ true)
-    both true t e = (refl, e)
-    both false t e = (e, cc)
 
 pub within-whole : (r : Range) (n : ℕ) → within r (pos n) ≡ true → (least r ≤ n) × (n ≤ most r)
 unfolding within

@@ -1,6 +1,6 @@
 -- The walk over a table for its first number out of range.
 --     outside-step, outside-here, outside-end     the walk at place i: on, ended, past the last number
---     field-next                                  the field after a field, where a record's fields follow one another again
+--     field-next, field-after-lt                  the field after a field
 --     section-length, section-at                  a section as a part of the fields
 --     half-breadth-step, -here, -end              the walk over half-breadths, which are whole numbers
 -- Assumes nothing.
@@ -10,13 +10,15 @@ use mathlib.Core.List.{List, map}
 use Prim.Native.Nat.{ℕ, _+_, _%_, _≤_, _<_}
 use native.Mathlib.Nat.{mod-eq-of-lt, mod-self, mod-add-mod, mod-one}
 use native.Mathlib.Omega.{arith}
+use borrow.Author.Tests.{ltb-true, ltb-false}
+use lib.Dec.{ltb}
 use lib.IntN.{ℤ, pos}
 use lib.ListN.{length, getD, take, drop, drop-of-length-le, length-drop, length-map, List·getD-map}
 use lib.Seq.{getD-take, getD-drop, length-take-le}
-use Rattle.arithmetic.proofs.Choice.{chosen}
+use Rattle.arithmetic.proofs.Choice.{chosen, if-either}
 use Rattle.arithmetic.proofs.Parts.{drop-step}
 use Rattle.ranges.specs.Fields.{Range, _to_, within, fields, rangeOf, halfBreadth}
-use Rattle.ranges.specs.Outside.{outsideFrom, firstOutside}
+use Rattle.ranges.specs.Outside.{outsideFrom, firstOutside, fieldAfter}
 
 module _ (section : List Range) (table : List ℤ) (i : ℕ) where
   pub outside-step : i < length table → within (getD section (i % length section) (1 to 0)) (getD table i (pos 0)) ≡ true → outsideFrom section (i + 1) (drop (i + 1) table) ≡ outsideFrom section i (drop i table)
@@ -35,15 +37,20 @@ pub outside-start : (section : List Range) (table : List ℤ) → outsideFrom se
 unfolding firstOutside
 outside-start section table = refl
 
--- after field k of a record comes field k + 1, and after the last the first
-pub field-next : (k width : ℕ) → k < width → (k + 1 ≡ width → ⊥) → k + 1 ≡ (k + 1) % width
-field-next k width h l = sym (mod-eq-of-lt (omega arith))
+-- the field after field k, which number i of a table has, is that of number i + 1
+pub field-next : (i k width : ℕ) → k ≡ i % width → k < width → fieldAfter k width ≡ (i + 1) % width
+unfolding fieldAfter
+field-next i k width e l =
+    if-either (λ n. n ≡ (i + 1) % width) (ltb (k + 1) width)
+    (λ t. sym (mod-eq-of-lt (ltb-true (k + 1) width t)) ∙ next)
+    (λ t. let whole : k + 1 ≡ width = omega (arith, ltb-false (k + 1) width t) in sym (mod-self width) ∙ sym (ap (λ n. n % width) whole) ∙ next)
+  where
+    next : (k + 1) % width ≡ (i + 1) % width
+    next = ap (λ n. (n + 1) % width) e ∙ mod-add-mod i width 1
 
-pub field-first : (k width : ℕ) → k + 1 ≡ width → 0 ≡ (k + 1) % width
-field-first k width e = sym (ap (λ n. n % width) e ∙ mod-self width)
-
-pub field-of-next : (i k width : ℕ) → k ≡ i % width → (k + 1) % width ≡ (i + 1) % width
-field-of-next i k width e = ap (λ n. (n + 1) % width) e ∙ mod-add-mod i width 1
+pub field-after-lt : (k width : ℕ) → 0 < width → fieldAfter k width < width
+unfolding fieldAfter
+field-after-lt k width h = if-either (λ n. n < width) (ltb (k + 1) width) (λ t. ltb-true (k + 1) width t) (λ t. h)
 
 module _ (first width : ℕ) (h : first + width ≤ 18) where
   pub section-length : length (take width (drop first fields)) ≡ width

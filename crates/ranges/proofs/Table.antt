@@ -14,6 +14,7 @@ use lib.Dec.{leb, eqb}
 use lib.IntN.{ℤ, pos, negsuc, natAbs}
 use lib.ListN.{length, getD, List·getD-eq-default}
 use Rattle.arithmetic.specs.Signed.{isNegative}
+use Rattle.arithmetic.proofs.Tests.{both, never}
 use Rattle.ranges.specs.Fields.{Range, _to_, ±_, within, fields, rangeOf}
 
 abbrev pub leasts : List ℕ
@@ -41,13 +42,6 @@ allAgree (r ∷ rs) (l ∷ ls) (g ∷ gs) (b ∷ bs) = agree r l g b && allAgree
 -- the test
 same-table : allAgree fields leasts greatests signs ≡ true
 same-table = refl
-
-both : (a b : Bool) → a && b ≡ true → (a ≡ true) × (b ≡ true)
-both true b e = (refl, e)
-both false b e = (e, cc)
-
-never : {X : Type 0} → false ≡ true → X
-never e = let z : _≡_ {A = ℕ} 0 1 = cc in absurd (omega arith)
 
 -- what is tested at every row holds at each
 agree-at : (rs : List Range) (ls gs bs : List ℕ) → allAgree rs ls gs bs ≡ true → (k : ℕ) → k < length rs → agree (getD rs k (1 to 0)) (getD ls k 0) (getD gs k 0) (getD bs k 0) ≡ true

@@ -2,6 +2,7 @@
 use Prim.Native.Nat.{ℕ, zero, suc, _+_, _%_}
 use mathlib.Core.Bool.{Bool, true, false}
 use mathlib.Core.List.{List, [], _∷_, map}
+use lib.Dec.{ltb}
 use lib.IntN.{ℤ, pos}
 use lib.ListN.{length, getD}
 use Rattle.arithmetic.specs.Choice.{if_then_else_}
@@ -19,6 +20,10 @@ outsideFrom section place (v ∷ rest) =
 
 unfoldable pub firstOutside : List Range → List ℤ → ℕ
 firstOutside section table = outsideFrom section 0 table
+
+-- the field after a field of a record, where a record's fields follow one another again and again
+unfoldable pub fieldAfter : ℕ → ℕ → ℕ
+fieldAfter field width = if ltb (field + 1) width then field + 1 else 0
 
 -- the particulars in the file's order
 abbrev pub numbersOf : Particulars → List ℤ

@@ -56,3 +56,26 @@ contentsAboveCapacity = 13
 -- output room shorter than the text
 abbrev pub roomTooShort : ℕ
 roomTooShort = 14
+
+-- "Place of 4: .. 0..4 particulars, 5+i half-breadths, 1,000+i items, 2,000+i tanks": where the places of each table begin
+abbrev pub placeOfHalfBreadths : ℕ
+placeOfHalfBreadths = 5
+
+abbrev pub placeOfItems : ℕ
+placeOfItems = 1_000
+
+abbrev pub placeOfTanks : ℕ
+placeOfTanks = 2_000
+
+-- "7: 0 half-breadths, 1 items, 2 tanks, 3 rows"
+abbrev pub halfBreadthTable : ℕ
+halfBreadthTable = 0
+
+abbrev pub itemTable : ℕ
+itemTable = 1
+
+abbrev pub tankTable : ℕ
+tankTable = 2
+
+abbrev pub rowTable : ℕ
+rowTable = 3

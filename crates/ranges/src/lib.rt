@@ -3,9 +3,9 @@ ghost use mathlib.Core.Path.{_≡_};
 ghost use mathlib.Core.List.{map};
 ghost use lib.IntN.{pos};
 ghost use lib.ListN.{take, drop};
-ghost use Prim.Native.Nat.{_+_, _%_, _<_, _≤_};
+ghost use Prim.Native.Nat.{_+_, _<_, _≤_};
 ghost use Rattle.ranges.specs.Fields.{within, rangeOf, fields, particulars, halfBreadth, item, tank};
-ghost use Rattle.ranges.specs.Outside.{firstOutside, numbersOf};
+ghost use Rattle.ranges.specs.Outside.{fieldAfter, firstOutside, numbersOf};
 ghost use Rattle.ranges.specs.Sides.{sidesOf};
 ghost use Rattle.ranges.specs.Sizes.{wholeRecords, mostItems, mostTanks};
 
@@ -43,6 +43,22 @@ impl Refusal {
     pub const CONTENTS_ABOVE_CAPACITY: u64 = 13;
 
     pub const ROOM_TOO_SHORT: u64 = 14;
+
+    // Where the places of each table's numbers begin; the particulars' begin at 0.
+    pub const HALF_BREADTHS_AT: usize = 5;
+
+    pub const ITEMS_AT: usize = 1_000;
+
+    pub const TANKS_AT: usize = 2_000;
+
+    // The tables by number, as the places of a wrong size.
+    pub const HALF_BREADTH_TABLE: usize = 0;
+
+    pub const ITEM_TABLE: usize = 1;
+
+    pub const TANK_TABLE: usize = 2;
+
+    pub const ROW_TABLE: usize = 3;
 }
 
 // A hull's particulars: n intervals of length, m intervals of draft, s mm between stations, d mm between waterlines, and
@@ -259,10 +275,16 @@ fn first_outside(table: &[i64], first: usize, width: usize) -> usize
     i
 }
 
-// The field after this one; after a record's last field, the first again.
-fn field_after(field: usize, width: usize) -> usize
-    requires { ⌜ field < width ⌝ }
-    ensures { λ r. ⌜ r ≡ (field + 1) % width ⌝ }
+// The field after this one in a record of a width; after the last, the first again.
+pub fn field_after(field: usize, width: usize) -> usize
+    ensures { λ r. ⌜ r ≡ fieldAfter field width ⌝ }
 {
-    if field + 1 == width { 0 } else { field + 1 }
+    if width <= field {
+        return 0;
+    }
+    let next = field + 1;
+    if next == width {
+        return 0;
+    }
+    next
 }

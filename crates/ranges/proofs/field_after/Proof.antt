@@ -1,20 +1,27 @@
--- The remainder, by one test. Assumes nothing.
-use Rattle.ranges.proofs.Outside.{field-next, field-first}
+-- Each return is what its tests tell. Assumes nothing.
+use Prim.Native.Nat.{_+_}
+use native.Mathlib.Omega.{arith}
+use borrow.Author.Tests.{lt-ltb, le-ltb}
+use Rattle.arithmetic.proofs.Choice.{chosen}
+use Rattle.ranges.specs.Outside.{fieldAfter}
 use borrow.Author.Needs.{needs}
 use Rattle.ranges.proofs.field_after.Statement.{statement}
 use Rattle.ranges.proofs.field_after.Tie as tie
 
-add-if1 : tie.Need-add-if1
-add-if1 c = search needs
-
-add-result : tie.Need-add-result
-add-result c = search needs
-
 returns : tie.Need-returns
-returns c = field-first _ _ (c .if1 .taken)
+unfolding fieldAfter
+returns c = let a = c .before .args in simp (le-ltb (a .field + 1) (a .width) (omega arith), chosen)
+
+add-next : tie.Need-add-next
+add-next c = search needs
 
 returns-2 : tie.Need-returns-2
-returns-2 c = field-next _ _ (c .before .pre) (c .if1 .left)
+unfolding fieldAfter
+returns-2 c = let a = c .before .before .args in simp (le-ltb (a .field + 1) (a .width) (omega arith), chosen)
+
+returns-3 : tie.Need-returns-3
+unfolding fieldAfter
+returns-3 c = let a = c .before .before .args in simp (lt-ltb (a .field + 1) (a .width) (omega arith), chosen)
 
 pub field-after-spec : {M : Type 1} → statement M
-field-after-spec = tie.close (tie.spec add-if1 add-result returns returns-2)
+field-after-spec = tie.close (tie.spec returns add-next returns-2 returns-3)

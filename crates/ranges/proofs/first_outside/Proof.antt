@@ -2,7 +2,7 @@
 use Prim.Native.Nat.{_+_, _%_, _≤_, _<_, _-_}
 use mathlib.Core.Path.{_≡_, sym, subst, _∙_}
 use mathlib.Core.Bool.{Bool}
-use native.Mathlib.Nat.{mod-lt, zero-mod}
+use native.Mathlib.Nat.{zero-mod}
 use native.Mathlib.Omega.{arith}
 use borrow.Author.Needs.{needs}
 use borrow.Author.Tests.{not-true, not-false}
@@ -11,7 +11,7 @@ use lib.ListN.{length, getD, take, drop}
 use Rattle.arithmetic.proofs.Crossing.{heard}
 use Rattle.ranges.specs.Fields.{Range, _to_, within, rangeOf, fields}
 use Rattle.ranges.specs.Outside.{outsideFrom, firstOutside}
-use Rattle.ranges.proofs.Outside.{outside-start, outside-step, outside-here, outside-end, field-of-next, section-at}
+use Rattle.ranges.proofs.Outside.{outside-start, outside-step, outside-here, outside-end, field-next, field-after-lt, section-at}
 use Rattle.ranges.proofs.first_outside.Statement.{statement}
 use Rattle.ranges.proofs.first_outside.Tie as tie
 
@@ -49,7 +49,7 @@ returns : tie.Need-returns Inv-loop μ-loop
 returns c = sym (outside-here _ _ _ (c .before .before .before .loop-test .taken) (tested (c .before) ∙ not-true _ (c .if1 .taken))) ∙ c .before .before .before .before .loop .inv .3
 
 field-after-requires : tie.Need-field-after-requires Inv-loop μ-loop
-field-after-requires c κs = c .before .before .before .before .loop .inv .1
+field-after-requires c κs = search needs
 
 add-i : tie.Need-add-i Inv-loop μ-loop
 add-i c = omega arith
@@ -62,8 +62,8 @@ loop-again c =
     let l = c .before .before .before .before .before in
     let s = l .before .args in (
       omega arith,
-      subst (λ k. k < s .width) (sym (c .field-after .ensures)) (mod-lt _ (l .before .pre .0)),
-      c .field-after .ensures ∙ field-of-next (l .loop .i) _ (s .width) (l .loop .inv .2),
+      subst (λ k. k < s .width) (sym (c .field-after .ensures)) (field-after-lt _ (s .width) (l .before .pre .0)),
+      c .field-after .ensures ∙ field-next (l .loop .i) _ (s .width) (l .loop .inv .2) (l .loop .inv .1),
       outside-step (take (s .width) (drop (s .first) fields)) (s .table .now) (l .loop .i) (c .before .before .before .before .loop-test .taken) (tested (c .before .before) ∙ not-false _ (c .before .if1 .left)) ∙ l .loop .inv .3,
     )
 

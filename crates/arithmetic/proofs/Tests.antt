@@ -1,0 +1,32 @@
+-- What tests tell.
+--     both            both halves of a joint test
+--     never           no test is both false and true
+--     less-or-not     one number is below another, or it is not
+--     flag-le         a test, counted, is at most 1
+-- Assumes nothing.
+use Prim.Native.Nat.{ℕ, _≤_, _<_}
+use mathlib.Core.Bool.{Bool, true, false, _&&_}
+use mathlib.Core.Logic.{_⊎_, inl, inr}
+use mathlib.Core.Path.{_≡_, refl}
+use native.Mathlib.Omega.{arith}
+use borrow.Author.Tests.{ltb-true, ltb-false}
+use lib.Dec.{ltb, lit≤}
+use mir.Val.{boolByte}
+
+pub both : (a b : Bool) → a && b ≡ true → (a ≡ true) × (b ≡ true)
+both true b e = (refl, e)
+both false b e = (e, cc)
+
+pub never : {X : Type 0} → false ≡ true → X
+never e = let z : _≡_ {A = ℕ} 0 1 = cc in absurd (omega arith)
+
+pub less-or-not : (n m : ℕ) → (n < m) ⊎ (m ≤ n)
+less-or-not n m = told (ltb n m) refl
+  where
+    told : (t : Bool) → ltb n m ≡ t → (n < m) ⊎ (m ≤ n)
+    told true e = inl (ltb-true n m e)
+    told false e = inr (ltb-false n m e)
+
+pub flag-le : (t : Bool) → boolByte t ≤ 1
+flag-le true = lit≤ tt
+flag-le false = lit≤ tt

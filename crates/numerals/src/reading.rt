@@ -1,0 +1,130 @@
+// Reading: an optional minus, the digits after it, and whether they make a number.
+// The bytes are passed over once; the first alone is looked at again, for a minus and for a leading zero.
+ghost use mathlib.Core.Bool.{true};
+ghost use mathlib.Core.Path.{_≡_};
+ghost use Prim.Native.Nat.{_≤_, min};
+ghost use lib.ListN.{length};
+ghost use Rattle.numerals.specs.Number.{isDigit, allDigits, isWhole, numberOf};
+ghost use Rattle.numerals.specs.Front.{numeralAt};
+ghost use Rattle.numerals.specs.Sign.{saidFrom, DigitsFrom};
+
+// What a token says.
+pub enum Number {
+    Is(i64),
+    Not,
+}
+
+// The number at the front of a text, with the place after it.
+pub enum Numeral {
+    Ends { value: i64, stop: usize },
+    None,
+}
+
+// Digits that stand in a text: their value, and the place after them.
+struct Digits {
+    value: u64,
+    stop: usize,
+}
+
+// A number has nine digits at the most; one more is taken, and is too many.
+const MOST_DIGITS: usize = 9;
+
+// What a token says.
+pub fn read_number(token: &[u8]) -> Number
+    ensures { λ r. ⌜ r ≡ numberOf (now (token .entry)) ⌝ }
+{
+    match numeral_at(token, 0) {
+        Numeral::None => Number::Not,
+        Numeral::Ends { value, stop } => if stop == token.len() {
+            Number::Is(value)
+        } else {
+            Number::Not
+        },
+    }
+}
+
+// The number that stands in text from place `at` on: an optional minus and the digits after it.
+pub fn numeral_at(text: &[u8], at: usize) -> Numeral
+    ensures { λ r. ⌜ r ≡ numeralAt (now (text .entry)) at ⌝ }
+{
+    if text.len() <= at {
+        return Numeral::None;
+    }
+    let minus = text[at] == b'-';
+    said_from(text, at + minus as usize, minus)
+}
+
+// What the digits from a place on say, after a minus or none.
+fn said_from(text: &[u8], from: usize, minus: bool) -> Numeral
+    requires { ⌜ from ≤ length (now text) ⌝ }
+    ensures { λ r. ⌜ r ≡ saidFrom (now (text .entry)) from minus ⌝ }
+{
+    let digits = digits_from(text, from);
+    let value = digits.value;
+    let stop = digits.stop;
+    if !is_whole(&text[from..stop]) {
+        return Numeral::None;
+    }
+    if minus {
+        if value == 0 {
+            return Numeral::None;
+        }
+        return Numeral::Ends {
+            value: arithmetic::negated(value),
+            stop,
+        };
+    }
+    Numeral::Ends {
+        value: arithmetic::signed(value),
+        stop,
+    }
+}
+
+// The digits from a place on, ten at the most.
+fn digits_from(text: &[u8], from: usize) -> Digits
+    requires { ⌜ from ≤ length (now text) ⌝ }
+    ensures { λ r. ⌜ DigitsFrom (now (text .entry)) from r ⌝ }
+{
+    let end = least(text.len(), from + MOST_DIGITS + 1);
+    let mut value: u64 = 0;
+    let mut stop = from;
+    while stop < end {
+        let b = text[stop];
+        if !is_digit(b) {
+            return Digits { value, stop };
+        }
+        value = value * 10 + ((b - b'0') as u64);
+        stop += 1;
+    }
+    Digits { value, stop }
+}
+
+// Whether digits make a whole number: one to nine of them, and no leading zero.
+fn is_whole(digits: &[u8]) -> bool
+    requires { ⌜ allDigits (now digits) ≡ true ⌝ }
+    ensures { λ r. ⌜ r ≡ isWhole (now (digits .entry)) ⌝ }
+{
+    let count = digits.len();
+    if count == 0 {
+        return false;
+    }
+    if MOST_DIGITS < count {
+        return false;
+    }
+    if count == 1 {
+        return true;
+    }
+    digits[0] != b'0'
+}
+
+fn is_digit(b: u8) -> bool
+    ensures { λ r. ⌜ r ≡ isDigit b ⌝ }
+{
+    if b < b'0' { false } else { b <= b'9' }
+}
+
+fn least(a: usize, b: usize) -> usize
+    ensures { λ r. ⌜ r ≡ min a b ⌝ }
+{
+    if a < b { a } else { b }
+}
