@@ -80,3 +80,10 @@ pub fn number_at(table: &[i64], i: usize) -> i64
     }
     0
 }
+
+// How far the number at place i of a table is from 0; 0 beyond its end.
+pub fn size_at(table: &[i64], i: usize) -> u64
+    ensures { λ r. ⌜ r ≡ natAbs (getD (now (table .entry)) i (pos 0)) ⌝ }
+{
+    magnitude(number_at(table, i))
+}

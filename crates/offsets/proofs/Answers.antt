@@ -1,0 +1,94 @@
+-- What the reader answers, and what it leaves in the tables.
+--     half-short, items-short, tanks-short, too-long      the refusals before the first token
+--     file-refused                                        a refusal of the file
+--     sheet                                               a whole file, copied into the tables
+-- Assumes nothing.
+use mathlib.Core.Path.{_≡_, refl, sym, ap, ap₂, _∙_}
+use mathlib.Core.List.{List, _++_, map}
+use Prim.Native.Nat.{ℕ, _*_, _/_, _≤_, _<_}
+use native.Mathlib.Nat.{mul-div-cancel-left}
+use native.Mathlib.Omega.{arith}
+use borrow.Author.Tests.{lt-ltb, le-ltb}
+use lib.Dec.{ltb}
+use lib.IntN.{ℤ, pos, natAbs}
+use lib.ListN.{length, take, drop, getD, length-map}
+use lib.Seq.{getD-take, length-take-le}
+use Rattle.arithmetic.proofs.Choice.{chosen}
+use Rattle.ranges.specs.Outcome.{Outcome, answered, refused}
+use Rattle.ranges.specs.Refusals.{fileTooLong, wrongSize}
+use Rattle.ranges.specs.Sizes.{longestFile, roomForHalfBreadths, roomForItems, roomForTanks}
+use Rattle.ranges.specs.declared.Refusal.{Refusal}
+use Rattle.offsets.specs.File.{Contents, file}
+use Rattle.offsets.specs.Reader.{readerOf, particularsOf, summaryOf, summarised, paper, filled, Reads}
+use Rattle.offsets.specs.Steps.{Sized, Rooms, Parses, onParsed}
+use Rattle.offsets.specs.Tokens.{tokens}
+use Rattle.offsets.specs.declared.Read.{Read}
+use Rattle.offsets.specs.declared.Read.the-variants.{Sheet, Refused}
+use Rattle.offsets.specs.declared.reader.Parsed.{Parsed}
+use Rattle.offsets.specs.declared.reader.Parsed.the-variants as P
+
+module _ (text h₀ : List ℕ) (i₀ t₀ : List ℤ) where
+  refusal : (number place : ℕ) → readerOf text (length h₀) (length i₀) (length t₀) ≡ refused number place → Reads text h₀ h₀ i₀ i₀ t₀ t₀ (Refused (record { number = number; place = place }))
+  unfolding summarised filled
+  refusal number place e = record { answer-is = rw e; half-breadths-left = rw e; items-left = rw e; tanks-left = rw e }
+
+  pub half-short : length h₀ < roomForHalfBreadths → Reads text h₀ h₀ i₀ i₀ t₀ t₀ (Refused (record { number = wrongSize; place = 0 }))
+  half-short h = refusal wrongSize 0 (unfold readerOf in simp (lt-ltb (length h₀) roomForHalfBreadths h, chosen))
+
+  module _ (half : roomForHalfBreadths ≤ length h₀) where
+    pub items-short : length i₀ < roomForItems → Reads text h₀ h₀ i₀ i₀ t₀ t₀ (Refused (record { number = wrongSize; place = 1 }))
+    items-short h = refusal wrongSize 1 (unfold readerOf in simp (le-ltb (length h₀) roomForHalfBreadths half, lt-ltb (length i₀) roomForItems h, chosen))
+
+    module _ (items : roomForItems ≤ length i₀) where
+      pub tanks-short : length t₀ < roomForTanks → Reads text h₀ h₀ i₀ i₀ t₀ t₀ (Refused (record { number = wrongSize; place = 2 }))
+      tanks-short h = refusal wrongSize 2 (unfold readerOf in simp (le-ltb (length h₀) roomForHalfBreadths half, le-ltb (length i₀) roomForItems items, lt-ltb (length t₀) roomForTanks h, chosen))
+
+      pub too-long : roomForTanks ≤ length t₀ → longestFile < length text → Reads text h₀ h₀ i₀ i₀ t₀ t₀ (Refused (record { number = fileTooLong; place = longestFile }))
+      too-long tanks h = refusal fileTooLong longestFile (unfold readerOf in simp (le-ltb (length h₀) roomForHalfBreadths half, le-ltb (length i₀) roomForItems items, le-ltb (length t₀) roomForTanks tanks, lt-ltb longestFile (length text) h, chosen))
+
+  module _ (sized : Sized text h₀ i₀ t₀) where
+    on-file : readerOf text (length h₀) (length i₀) (length t₀) ≡ file (length text) (tokens text)
+    unfolding readerOf
+    on-file = simp (le-ltb (length h₀) roomForHalfBreadths (sized .half-breadth-room), le-ltb (length i₀) roomForItems (sized .item-room), le-ltb (length t₀) roomForTanks (sized .tank-room), le-ltb longestFile (length text) (sized .text-length), chosen)
+
+    module _ (hull half items tanks : List ℤ) (r : Parsed) (parses : Parses text hull half items tanks r) where
+      pub file-refused : (f : Refusal) → r ≡ P.Refused f → Reads text h₀ h₀ i₀ i₀ t₀ t₀ (Refused f)
+      unfolding onParsed
+      file-refused f e = refusal (f .number) (f .place) (on-file ∙ parses .read ∙ rw e)
+
+      -- so many of a table's first numbers are whole records
+      counted : (k w : ℕ) (xs : List ℤ) → 0 < w → w * k ≤ length xs → length (take (w * k) xs) / w ≡ k
+      counted k w xs z h = rw (length-take-le (w * k) xs h) (mul-div-cancel-left k z)
+
+      -- a lent table with the numbers read in front
+      front : {A : Type 0} (n : ℕ) (read was after : List A) → length read ≡ n → after ≡ read ++ drop n was → after ≡ read ++ drop (length read) was
+      front n read was after l e = rw l e
+
+      same-hull : particularsOf (take 5 hull) ≡ particularsOf hull
+      same-hull = rw (getD-take 5 hull 0 (pos 0) (omega arith), getD-take 5 hull 1 (pos 0) (omega arith), getD-take 5 hull 2 (pos 0) (omega arith), getD-take 5 hull 3 (pos 0) (omega arith), getD-take 5 hull 4 (pos 0) (omega arith))
+
+      module _ (p i t : ℕ) (whole : r ≡ P.Whole p i t) (rooms : Rooms hull half items tanks) (h : List ℕ) (j k : List ℤ) where
+        contents : Contents
+        contents = record { hull = take 5 hull; halfBreadths = take p half; items = take (4 * i) items; tanks = take (8 * t) tanks }
+
+        read-is : readerOf text (length h₀) (length i₀) (length t₀) ≡ answered contents
+        unfolding onParsed contents
+        read-is = on-file ∙ parses .read ∙ rw whole
+
+        pub sheet :
+            h ≡ map natAbs (take p half) ++ drop p h₀
+            → j ≡ take (4 * i) items ++ drop (4 * i) i₀
+            → k ≡ take (8 * t) tanks ++ drop (8 * t) t₀
+            → Reads text h₀ h i₀ j t₀ k (Sheet (record { particulars = particularsOf hull; items = i; tanks = t }))
+        unfolding summarised filled contents
+        sheet a b c =
+            let fits = rw whole at (parses .fits) in
+            let lp : p ≤ length half = omega arith in
+            let li : 4 * i ≤ length items = omega arith in
+            let lt : 8 * t ≤ length tanks = omega arith in
+            record {
+              answer-is = rw (read-is, same-hull, counted i 4 items (omega arith) li, counted t 8 tanks (omega arith) lt);
+              half-breadths-left = rw read-is (front p (map natAbs (take p half)) h₀ h (length-map (take p half) natAbs ∙ length-take-le p half lp) a);
+              items-left = rw read-is (front (4 * i) (take (4 * i) items) i₀ j (length-take-le (4 * i) items li) b);
+              tanks-left = rw read-is (front (8 * t) (take (8 * t) tanks) t₀ k (length-take-le (8 * t) tanks lt) c);
+            }

@@ -1,0 +1,8 @@
+-- The offset file: its tokens, what they say, what is written, and what reader and writer promise.
+pub mod Tokens
+pub mod Reading
+pub mod File
+pub mod Steps
+pub mod Reader
+pub mod Written
+pub mod Writer

@@ -1,0 +1,64 @@
+-- What the reader promises of a text and three lent tables.
+use Prim.Native.Nat.{ℕ, _/_}
+use mathlib.Core.Path.{_≡_}
+use mathlib.Core.List.{List, _++_, map}
+use lib.Dec.{ltb}
+use lib.IntN.{ℤ, pos, natAbs}
+use lib.ListN.{length, getD, drop}
+use Rattle.arithmetic.specs.Choice.{if_then_else_}
+use Rattle.ranges.specs.Fields.{item, tank}
+use Rattle.ranges.specs.Outcome.{Outcome, answered, refused}
+use Rattle.ranges.specs.Refusals.{fileTooLong, wrongSize, halfBreadthTable, itemTable, tankTable}
+use Rattle.ranges.specs.Sizes.{longestFile, roomForHalfBreadths, roomForItems, roomForTanks}
+use Rattle.offsets.specs.File.{Contents, file}
+use Rattle.offsets.specs.Tokens.{tokens}
+use Rattle.offsets.specs.declared.Read.{Read}
+use Rattle.offsets.specs.declared.Read.the-variants.{Sheet, Refused}
+use Rattle.offsets.specs.declared.Summary.{Summary}
+use Rattle.ranges.specs.declared.Particulars.{Particulars}
+
+-- "Reader: 7 (room below 861, 128 or 128 numbers), 1, then left to right", by the text and the lengths of the tables
+unfoldable pub readerOf : List ℕ → ℕ → ℕ → ℕ → Outcome Contents
+readerOf text halfBreadths items tanks =
+    if ltb halfBreadths roomForHalfBreadths then refused wrongSize halfBreadthTable
+    else if ltb items roomForItems then refused wrongSize itemTable
+    else if ltb tanks roomForTanks then refused wrongSize tankTable
+    else if ltb longestFile (length text) then refused fileTooLong longestFile
+    else file (length text) (tokens text)
+
+-- "the reader answers the particulars and the counts of items and tanks"
+abbrev pub particularsOf : List ℤ → Particulars
+particularsOf hull = record {
+  n = natAbs (getD hull 0 (pos 0));
+  m = natAbs (getD hull 1 (pos 0));
+  s = natAbs (getD hull 2 (pos 0));
+  d = natAbs (getD hull 3 (pos 0));
+  density = natAbs (getD hull 4 (pos 0));
+}
+
+abbrev pub summaryOf : Contents → Summary
+summaryOf c = record {
+  particulars = particularsOf (c .hull);
+  items = length (c .items) / length item;
+  tanks = length (c .tanks) / length tank;
+}
+
+unfoldable pub summarised : Outcome Contents → Outcome Summary
+summarised (answered c) = answered (summaryOf c)
+summarised (refused number place) = refused number place
+
+-- the paper's number and values for each answer
+abbrev pub paper : Read → Outcome Summary
+paper (Sheet summary) = answered summary
+paper (Refused r) = refused (r .number) (r .place)
+
+-- a lent table afterwards: the numbers read, and "every place beyond what they filled unchanged"; on a refusal what stood before
+unfoldable pub filled : {A : Type 0} → (Contents → List A) → Outcome Contents → List A → List A
+filled part (answered c) was = part c ++ drop (length (part c)) was
+filled part (refused number place) was = was
+
+pub record Reads (text : List ℕ) (halfBreadths halfBreadthsAfter : List ℕ) (items itemsAfter tanks tanksAfter : List ℤ) (answer : Read) : Type 0 where
+  pub answer-is : paper answer ≡ summarised (readerOf text (length halfBreadths) (length items) (length tanks))
+  pub half-breadths-left : halfBreadthsAfter ≡ filled (λ c. map natAbs (c .halfBreadths)) (readerOf text (length halfBreadths) (length items) (length tanks)) halfBreadths
+  pub items-left : itemsAfter ≡ filled (λ c. c .items) (readerOf text (length halfBreadths) (length items) (length tanks)) items
+  pub tanks-left : tanksAfter ≡ filled (λ c. c .tanks) (readerOf text (length halfBreadths) (length items) (length tanks)) tanks
