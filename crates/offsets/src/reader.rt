@@ -13,9 +13,6 @@ use crate::reading::Step;
 use ranges::Particulars;
 use ranges::Refusal;
 
-// How many particulars there are.
-const PARTICULARS: usize = 5;
-
 // A whole file's counts: half-breadths, items and tanks.
 pub enum Parsed {
     Whole {
@@ -103,13 +100,18 @@ fn parse(
     ensures { λ r. ⌜ Parses (now (text .entry)) (now (hull .exit)) (now («half_breadths» .exit)) (now (items .exit)) (now (tanks .exit)) r ⌝ }
 {
     let start = Step::At { count: 0, next: 0 };
-    let five = reading::count_after(text, start, PARTICULARS, PARTICULARS);
+    let five = reading::count_after(
+        text,
+        start,
+        ranges::PARTICULAR_COUNT,
+        ranges::PARTICULAR_COUNT,
+    );
     let hull_read = reading::numbers_after(
         text,
         five,
         ranges::PARTICULARS,
-        PARTICULARS,
-        PARTICULARS,
+        ranges::PARTICULAR_COUNT,
+        ranges::PARTICULAR_COUNT,
         hull,
     );
     let points = points_in(hull);

@@ -91,7 +91,9 @@ const FIELDS: usize = 18;
 // The most bytes of a file.
 pub const LONGEST_FILE: usize = 16_384;
 
-// How many numbers an item and a tank have, and how many of each there may be.
+// How many particulars there are, how many numbers an item and a tank have, and how many of each there may be.
+pub const PARTICULAR_COUNT: usize = 5;
+
 pub const ITEM_WIDTH: usize = 4;
 
 pub const TANK_WIDTH: usize = 8;

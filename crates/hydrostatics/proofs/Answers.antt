@@ -1,0 +1,77 @@
+-- What is answered, by the tests in the paper's order.
+--     particulars-told, hull-told                                     no number outside: all are in range
+--     bad-particular, wrong-table, wrong-room, bad-half-breadth       the refusals before the rows
+--     rows-follow                                                     where none of them holds
+--     refuses, makes                                                  the promise, of a refusal and where the rows follow
+-- Assumes nothing.
+use mathlib.Core.Path.{_≡_}
+use mathlib.Core.List.{List, map}
+use Prim.Native.Nat.{ℕ, _+_, _-_, _*_, _≤_, _<_}
+use native.Mathlib.Omega.{arith}
+use borrow.Author.Tests.{lt-ltb, le-ltb, eq-eqb, ne-eqb}
+use lib.IntN.{pos}
+use lib.ListN.{length, length-map}
+use Rattle.arithmetic.proofs.Choice.{chosen}
+use Rattle.ranges.specs.Fields.{particulars, halfBreadth}
+use Rattle.ranges.specs.InRange.{ParticularsInRange}
+use Rattle.ranges.specs.Outcome.{refused}
+use Rattle.ranges.specs.Outside.{firstOutside, numbersOf}
+use Rattle.ranges.specs.Refusals.{outOfRange, wrongSize}
+use Rattle.ranges.specs.declared.Particulars.{Particulars}
+use Rattle.ranges.proofs.Facts.{particulars-in-range, half-breadths-in-range}
+use Rattle.hydrostatics.specs.Promise.{paper, countOf, tableAfter, MakesRows}
+use Rattle.hydrostatics.specs.Rows.{rowsUpTo, rowsOf}
+use Rattle.hydrostatics.specs.Table.{FillsRows}
+use Rattle.hydrostatics.specs.Waterplanes.{InRange}
+use Rattle.hydrostatics.specs.declared.Rows.{Rows}
+use Rattle.hydrostatics.proofs.InRows.{first-le}
+
+pub particulars-told : {p : Particulars} {particular : ℕ} → particular ≡ firstOutside particulars (numbersOf p) → 5 ≤ particular → ParticularsInRange p
+particulars-told {p} first a = particulars-in-range p (omega (arith, first, first-le particulars (numbersOf p)))
+
+pub hull-told :
+    {table : List ℕ} {p : Particulars} {place : ℕ}
+    → ParticularsInRange p
+    → length table ≡ (p .n + 1) * (p .m + 1)
+    → place ≡ firstOutside halfBreadth (map pos table)
+    → length table ≤ place
+    → InRange table p
+hull-told {table} range b second d = record {
+  particulars = range;
+  half-breadths = half-breadths-in-range table (omega (arith, second, first-le halfBreadth (map pos table), length-map table pos));
+  complete = b;
+}
+
+-- ---- the outcome that the tests tell
+module _ (table : List ℕ) (p : Particulars) (room : ℕ) {particular : ℕ} (first : particular ≡ firstOutside particulars (numbersOf p)) where
+  pub bad-particular : particular < 5 → rowsOf table p room ≡ refused outOfRange particular
+  unfolding rowsOf
+  bad-particular a = simp (← first, lt-ltb _ _ a, chosen)
+
+  module _ (a : 5 ≤ particular) where
+    pub wrong-table : (length table ≡ (p .n + 1) * (p .m + 1) → ⊥) → rowsOf table p room ≡ refused wrongSize 0
+    unfolding rowsOf
+    wrong-table b = simp (← first, le-ltb _ _ a, ne-eqb _ _ b, chosen)
+
+    module _ (b : length table ≡ (p .n + 1) * (p .m + 1)) where
+      pub wrong-room : room < 7 * (p .m - 1) → rowsOf table p room ≡ refused wrongSize 3
+      unfolding rowsOf
+      wrong-room c = simp (← first, le-ltb _ _ a, eq-eqb _ _ b, lt-ltb _ _ c, chosen)
+
+      module _ (c : 7 * (p .m - 1) ≤ room) {place : ℕ} (second : place ≡ firstOutside halfBreadth (map pos table)) where
+        pub bad-half-breadth : place < length table → rowsOf table p room ≡ refused outOfRange (5 + place)
+        unfolding rowsOf
+        bad-half-breadth d = simp (← first, ← second, le-ltb _ _ a, eq-eqb _ _ b, le-ltb _ _ c, lt-ltb _ _ d, chosen)
+
+        pub rows-follow : length table ≤ place → rowsOf table p room ≡ rowsUpTo table p (p .m - 1)
+        unfolding rowsOf
+        rows-follow d = simp (← first, ← second, le-ltb _ _ a, eq-eqb _ _ b, le-ltb _ _ c, le-ltb _ _ d, chosen)
+
+-- ---- the promise
+module _ {table : List ℕ} {p : Particulars} {rows : List ℕ} {answer : Rows} where
+  pub refuses : {number place : ℕ} → rowsOf table p (length rows) ≡ refused number place → paper answer ≡ refused number place → MakesRows table p rows rows answer
+  unfolding countOf tableAfter
+  refuses e f = record { answer-is = rw e f; left = rw e }
+
+  pub makes : {after : List ℕ} → rowsOf table p (length rows) ≡ rowsUpTo table p (p .m - 1) → FillsRows table p rows after answer → MakesRows table p rows after answer
+  makes e f = record { answer-is = rw e (f .answer-is); left = rw e (f .left) }

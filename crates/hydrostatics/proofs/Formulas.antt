@@ -1,0 +1,68 @@
+-- The seven numbers from the sums that a row is made of.
+--     products                  how large each product on the way is
+--     row-is, row-empty         the row, and the row where S is 0
+-- Assumes nothing.
+use mathlib.Core.Path.{_≡_, ap, _∙_}
+use mathlib.Core.List.{List}
+use Prim.Native.Nat.{ℕ, _+_, _*_, _/_, _≤_}
+use native.Mathlib.Nat.{mul-le-mul, mul-zero, div-zero}
+use Rattle.arithmetic.proofs.Ring.{pow2}
+use Rattle.ranges.specs.declared.Particulars.{Particulars}
+use Rattle.hydrostatics.specs.Row.{rowAt}
+use Rattle.hydrostatics.specs.Waterplanes.{SumsOf, SumsWithin}
+use Rattle.hydrostatics.specs.declared.Row.{Row}
+use Rattle.hydrostatics.specs.declared.waterplanes.Sums.{Sums}
+
+-- the row with these four quotients by S
+abbrev pub made : Particulars → ℕ → Sums → ℕ → ℕ → ℕ → ℕ → ℕ → Row
+made p k sums q lcb kb bm km = record {
+  draft = p .d * k;
+  displacement = p .s * p .d * sums .sum * p .density / 288_000_000_000;
+  lcb = lcb;
+  kb = kb;
+  bm = bm;
+  km = km;
+  area = p .s * q / 12;
+}
+
+module _ {p : Particulars} {k : ℕ} {sums : Sums} {q c : ℕ} where
+  pub products :
+      SumsWithin p k sums q c
+      → (p .d * k ≤ 10_000)
+      × (p .s * p .d ≤ 1_250_000)
+      × (p .s * p .d * sums .sum ≤ 4_608_000_000_000_000)
+      × (p .s * p .d * sums .sum * p .density ≤ 5_068_800_000_000_000_000)
+      × (p .s * q ≤ 19_200_000_000)
+      × (p .s * sums .sx ≤ 368_640_000_000_000)
+      × (p .d * sums .sz ≤ 36_864_000_000_000)
+      × (p .d * sums .sum ≤ 1_843_200_000_000)
+      × (p .d * p .d ≤ 250_000)
+      × (p .d * p .d * sums .sz ≤ 18_432_000_000_000_000)
+  products w =
+      let s : p .s ≤ 2_500 = w .particulars .s-most in
+      let d : p .d ≤ 500 = w .particulars .d-most in
+      let spacings = mul-le-mul s d in
+      let volume = mul-le-mul spacings (w .sum-most) in (
+        mul-le-mul d (w .k-most),
+        spacings,
+        volume,
+        mul-le-mul volume (w .particulars .density-most),
+        mul-le-mul s (w .q-most),
+        mul-le-mul s (w .sx-most),
+        mul-le-mul d (w .sz-most),
+        mul-le-mul d (w .sum-most),
+        mul-le-mul d d,
+        mul-le-mul (mul-le-mul d d) (w .sz-most),
+      )
+
+  module _ (table : List ℕ) (of : SumsOf table p k sums q c) where
+    pub row-is : made p k sums q (p .s * sums .sx / sums .sum) (p .d * sums .sz / sums .sum) (8 * c / (p .d * sums .sum)) ((p .d * p .d * sums .sz + 8 * c) / (p .d * sums .sum)) ≡ rowAt table p k
+    unfolding rowAt
+    row-is = rw (of .S-is, of .Sz-is, of .Sx-is, of .Q-is, of .C-is, ← pow2 (p .d))
+
+    pub row-empty : sums .sum ≡ 0 → made p k sums q 0 0 0 0 ≡ rowAt table p k
+    row-empty e =
+        let none : (a b : ℕ) → b ≡ 0 → a / b ≡ 0 = λ a b e. ap (λ b. a / b) e ∙ div-zero a in
+        let sum : (a : ℕ) → a / sums .sum ≡ 0 = λ a. none a (sums .sum) e in
+        let lever : (a : ℕ) → a / (p .d * sums .sum) ≡ 0 = λ a. none a (p .d * sums .sum) (ap (λ b. p .d * b) e ∙ mul-zero (p .d)) in
+        rw (sum (p .s * sums .sx), sum (p .d * sums .sz), lever (8 * c), lever (p .d * p .d * sums .sz + 8 * c)) at row-is

@@ -1,0 +1,86 @@
+-- How large the sums of a hull in range are.
+--     place-within               a half-breadth's place is in the table
+--     half-breadth-le            no half-breadth is above 8,000
+--     powers-le                  nor its square and cube above theirs
+--     Q-le, C-le                 a waterline's sums, by the area of the rectangle around it
+--     X-le                       at most the last station's number times Q
+--     S-le, Sz-le, Sx-le         a row's sums: by the box around the hull, and by the last waterline's and station's number
+--     Q-most, X-most, C-most, S-most        the same as numbers
+-- Assumes nothing.
+use mathlib.Core.List.{List}
+use Prim.Native.Nat.{ℕ, _+_, _*_, _^_, _≤_, _<_}
+use native.Mathlib.Nat.{add-mul, mul-le-mul-right, mul-comm, mul-le-mul, mul-le-mul-left, le-trans, pow-le-pow-left}
+use native.Mathlib.Omega.{arith}
+use lib.ListN.{length}
+use Rattle.ranges.specs.declared.Particulars.{Particulars}
+use Rattle.simpson.specs.Curve.{curve}
+use Rattle.simpson.proofs.Curves.{curve-times, curve-mono}
+use Rattle.simpson.proofs.Moments.{curve-le}
+use Rattle.hydrostatics.specs.Hull.{halfBreadth, S, Sz, Sx, Q, C}
+use Rattle.hydrostatics.specs.Waterplanes.{X, InRange}
+use Rattle.hydrostatics.proofs.Exchange.{Q-is, C-is, S-is, Sz-is, Sx-is}
+
+-- ordinates times their places, of which none is beyond the last
+moment-le : (n : ℕ) (y : ℕ → ℕ) → curve n (λ i. y i * i) ≤ n * curve n y
+moment-le n y =
+    le-trans (curve-mono n (λ i. y i * i) (λ i. n * y i) (λ i l. omega (arith, mul-comm n (y i), mul-le-mul-left (y i) l)))
+    (omega (arith, curve-times n n y))
+
+module _ (table : List ℕ) (p : Particulars) where
+  pub X-le : (j : ℕ) → X table p j ≤ p .n * Q table p j
+  unfolding X
+  X-le j = rw (Q-is table p j) (moment-le (p .n) (λ i. halfBreadth table p i j))
+
+  pub Sz-le : (k : ℕ) → Sz table p k ≤ k * S table p k
+  Sz-le k = rw (S-is table p k, Sz-is table p k) (moment-le k (Q table p))
+
+  pub Sx-le : (k : ℕ) → Sx table p k ≤ p .n * S table p k
+  Sx-le k =
+      rw (S-is table p k, Sx-is table p k)
+      (le-trans (curve-mono k (X table p) (λ j. p .n * Q table p j) (λ j l. X-le j)) (omega (arith, curve-times k (p .n) (Q table p))))
+
+-- the powers of a half-breadth
+pub powers-le : {y : ℕ} → y ≤ 8_000 → (y * y ≤ 64_000_000) × (y * y * y ≤ 512_000_000_000)
+powers-le h = (mul-le-mul h h, mul-le-mul (mul-le-mul h h) h)
+
+module _ {table : List ℕ} {p : Particulars} (hull : InRange table p) where
+  -- a place of the table
+  pub place-within : {i j : ℕ} → i ≤ p .n → j ≤ p .m → (i * (p .m + 1) ≤ 840) × (i * (p .m + 1) + j < length table)
+  place-within h k =
+      let stations = le-trans h (hull .particulars .n-most) in
+      let waterlines : p .m + 1 ≤ 21 = omega (arith, hull .particulars .m-most) in
+      (mul-le-mul stations waterlines, omega (arith, hull .complete, mul-le-mul-right (p .m + 1) h, add-mul (p .n) 1 (p .m + 1)))
+
+  pub half-breadth-le : (i j : ℕ) → halfBreadth table p i j ≤ 8_000
+  unfolding halfBreadth
+  half-breadth-le i j = hull .half-breadths (i * (p .m + 1) + j)
+
+  pub Q-le : (j : ℕ) → Q table p j ≤ 8_000 * (24 * p .n)
+  Q-le j = rw (Q-is table p j) (curve-le (p .n) 8_000 (λ i. halfBreadth table p i j) (λ i l. half-breadth-le i j))
+
+  pub C-le : (j : ℕ) → C table p j ≤ 8_000 ^ 3 * (24 * p .n)
+  C-le j =
+      rw (C-is table p j)
+      (curve-le (p .n) (8_000 ^ 3) (λ i. halfBreadth table p i j ^ 3) (λ i l. pow-le-pow-left (half-breadth-le i j) 3))
+
+  pub S-le : (k : ℕ) → S table p k ≤ 8_000 * (24 * p .n) * (24 * k)
+  S-le k = rw (S-is table p k) (curve-le k (8_000 * (24 * p .n)) (Q table p) (λ j l. Q-le j))
+
+  -- as numbers
+  stations : p .n ≤ 40
+  stations = hull .particulars .n-most
+
+  pub Q-most : (j : ℕ) → Q table p j ≤ 7_680_000
+  Q-most j = omega (arith, Q-le j, stations)
+
+  pub X-most : (j : ℕ) → X table p j ≤ 307_200_000
+  X-most j = omega (arith, X-le table p j, mul-le-mul stations (Q-most j))
+
+  pub C-most : (j : ℕ) → C table p j ≤ 491_520_000_000_000
+  C-most j = omega (arith, C-le j, stations)
+
+  pub S-most : (k : ℕ) → k ≤ 20 → S table p k ≤ 3_686_400_000
+  S-most k h =
+      let waterlines : 24 * k ≤ 480 = omega arith in
+      let largest : 8_000 * (24 * p .n) ≤ 7_680_000 = omega (arith, stations) in
+      omega (arith, S-le k, mul-le-mul largest waterlines)

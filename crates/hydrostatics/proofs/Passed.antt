@@ -1,0 +1,109 @@
+-- What an answer of the rows tells.
+--     Passed, passed           every row among the first `count` has passed 8 and 9, and the numbers are theirs
+--     made-count               the answer carries the row count
+--     made-left, refused-left  the table after a success, by the rows that were kept, and after a refusal
+-- Assumes nothing.
+use mathlib.Core.Path.{_≡_, refl, sym, ap, _∙_}
+use mathlib.Core.Bool.{Bool, true, false}
+use mathlib.Core.List.{List, _++_}
+use Prim.Native.Nat.{ℕ, zero, suc, _+_, _-_, _*_, _/_, _≤_, _<_}
+use native.Mathlib.Omega.{arith}
+use borrow.Author.Count.{below-none, below-more}
+use borrow.Author.Tests.{leb-false, ltb-false}
+use lib.Dec.{leb, ltb}
+use lib.ListN.{length, getD, drop}
+use native.Mathlib.Numerals.{add-one}
+use Rattle.arithmetic.specs.Choice.{if_then_else_}
+use Rattle.ranges.specs.Outcome.{Outcome, answered, refused, andThen}
+use Rattle.ranges.specs.Refusals.{displacementNotRising, metacentreTooHigh}
+use Rattle.ranges.specs.declared.Particulars.{Particulars}
+use Rattle.hydrostatics.specs.Promise.{paper, countOf, tableAfter}
+use Rattle.hydrostatics.specs.Row.{rowOf, numbersOf, highestMetacentre}
+use Rattle.hydrostatics.specs.Rows.{displacementBefore, rowsUpTo}
+use Rattle.hydrostatics.specs.Table.{noRow, numbersUpTo, TriedRows, FillsRows}
+use Rattle.hydrostatics.specs.declared.Rows.the-variants.{Made, Refused}
+use Rattle.hydrostatics.specs.declared.table.Tried.{Tried}
+use Rattle.ranges.specs.declared.Refusal.{Refusal}
+use Rattle.hydrostatics.proofs.Writing.{numbers-length, numbers-same}
+
+-- a refusal is no answer
+pub never : {A X : Type 0} {number place : ℕ} {a : A} → refused number place ≡ answered a → X
+never e = let z : _≡_ {A = ℕ} 0 1 = cc in absurd (omega arith)
+
+-- what is answered in the end was answered on the way
+went-on : {A B X : Type 0} (o : Outcome A) (next : A → Outcome B) {b : B} → andThen o next ≡ answered b → ((a : A) → o ≡ answered a → next a ≡ answered b → X) → X
+unfolding andThen
+went-on (answered a) next e on = on a refl e
+went-on (refused number place) next e on = never e
+
+-- the refusal was not given
+pub else-answered : {A : Type 0} (t : Bool) (number place : ℕ) (other : Outcome A) {a : A} → (if t then refused number place else other) ≡ answered a → (t ≡ false) × (other ≡ answered a)
+unfolding if_then_else_
+else-answered true number place other e = never e
+else-answered false number place other e = (refl, e)
+
+below-suc : {P : ℕ → Type 0} (r : ℕ) → ((i : ℕ) → i < r → P i) → P r → (i : ℕ) → i < suc r → P i
+below-suc {P} r all here = rw add-one at (below-more P r all here)
+
+pub record Passed (table : List ℕ) (p : Particulars) (count : ℕ) (numbers : List ℕ) : Type 0 where
+  pub numbers-are : numbers ≡ numbersUpTo (rowOf table p) count
+  pub rises : (r : ℕ) → r < count → displacementBefore table p r < rowOf table p r .displacement
+  pub under : (r : ℕ) → r < count → rowOf table p r .km ≤ highestMetacentre
+
+module _ {table : List ℕ} {p : Particulars} where
+  -- one row more
+  passed-more : (r : ℕ) {before numbers : List ℕ} → Passed table p r before → (if leb (rowOf table p r .displacement) (displacementBefore table p r) then refused displacementNotRising r
+      else if ltb highestMetacentre (rowOf table p r .km) then refused metacentreTooHigh r
+      else answered (before ++ numbersOf (rowOf table p r))) ≡ answered numbers → Passed table p (suc r) numbers
+  unfolding numbersUpTo
+  passed-more r {before} so e =
+      let row = rowOf table p r in
+      let rising = else-answered (leb (row .displacement) (displacementBefore table p r)) displacementNotRising r _ e in
+      let low = else-answered (ltb highestMetacentre (row .km)) metacentreTooHigh r _ (rising .1) in
+      record {
+        numbers-are = cc (low .1) ∙ ap (λ l. l ++ numbersOf row) (so .numbers-are);
+        rises = below-suc r (so .rises) (leb-false (row .displacement) (displacementBefore table p r) (rising .0));
+        under = below-suc r (so .under) (ltb-false highestMetacentre (row .km) (low .0));
+      }
+
+  pub passed : (count : ℕ) {numbers : List ℕ} → rowsUpTo table p count ≡ answered numbers → Passed table p count numbers
+  unfolding rowsUpTo numbersUpTo
+  passed zero e = record { numbers-are = cc; rises = below-none _; under = below-none _ }
+  passed (suc r) e = went-on (rowsUpTo table p r) _ e (λ before so told. passed-more r (passed r so) told)
+
+-- ---- what is left of the lent table
+-- an outcome with a count has numbers
+pub counted : {X : Type 0} (o : Outcome (List ℕ)) {count : ℕ} → answered count ≡ countOf o → ((numbers : List ℕ) → o ≡ answered numbers → count ≡ length numbers / 7 → X) → X
+unfolding countOf
+counted (answered numbers) e on = on numbers refl cc
+counted (refused number place) e on = never (sym e)
+
+module _ {table : List ℕ} {p : Particulars} {tried : Tried} (so : TriedRows table p tried) where
+  module _ {count : ℕ} (made : tried .answer ≡ Made count) where
+    all : (count ≡ p .m - 1) × (rowsUpTo table p (p .m - 1) ≡ answered (numbersUpTo (rowOf table p) (p .m - 1)))
+    all =
+        counted (rowsUpTo table p (p .m - 1)) (sym (ap paper made) ∙ so .answer-is) (λ numbers o e.
+        let numbers-are = passed (p .m - 1) o .numbers-are in (
+          omega (arith, ap length numbers-are, numbers-length (rowOf table p) (p .m - 1)),
+          o ∙ ap answered numbers-are,
+        ))
+
+    pub made-count : count ≡ p .m - 1
+    made-count = all .0
+
+    pub made-left : {was after : List ℕ} → after ≡ numbersUpTo (λ r. getD (tried .rows) r noRow) count ++ drop (7 * count) was → FillsRows table p was after (Made count)
+    unfolding tableAfter
+    made-left {was} e = record {
+      answer-is = sym (ap paper made) ∙ so .answer-is;
+      left =
+          let kept = numbers-same (λ r. getD (tried .rows) r noRow) (rowOf table p) count (so .rows-are count made .at) in
+          rw (all .1, numbers-length (rowOf table p) (p .m - 1), ← made-count) (e ∙ ap (λ l. l ++ drop (7 * count) was) kept);
+    }
+
+  pub refused-left : {r : Refusal} {was : List ℕ} → tried .answer ≡ Refused r → FillsRows table p was was (tried .answer)
+  unfolding tableAfter countOf
+  refused-left {r} {was} e = record { answer-is = so .answer-is; left = untouched (rowsUpTo table p (p .m - 1)) (sym (ap paper e) ∙ so .answer-is) }
+    where
+      untouched : (o : Outcome (List ℕ)) → refused (r .number) (r .place) ≡ countOf o → was ≡ tableAfter o was
+      untouched (answered numbers) f = never f
+      untouched (refused number place) f = refl

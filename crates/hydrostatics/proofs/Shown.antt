@@ -1,0 +1,47 @@
+-- A row for display.
+--     exact                               a whole number up to 2⁵³ is converted to a float without loss
+--     thousand, million                   the code's units, which it has by their bits
+--     shown-refused, shown-all, shown     what is displayed, by the place of the first number outside
+-- Assumes nothing.
+use mathlib.Core.Path.{_≡_, refl}
+use mathlib.Core.List.{map}
+use Prim.Native.Nat.{ℕ, _≤_, _<_, _^_}
+use native.Mathlib.Omega.{arith}
+use borrow.Author.Tests.{lt-ltb, le-ltb}
+use lib.Dec.{T, le→leb}
+use lib.Ieee.{binary64, inFloat, ofBits, ofInt}
+use lib.IntN.{pos}
+use Rattle.arithmetic.proofs.Choice.{chosen}
+use Rattle.ranges.specs.Outcome.{answered, refused}
+use Rattle.ranges.specs.Outside.{firstOutside}
+use Rattle.ranges.specs.Refusals.{outOfRange}
+use Rattle.hydrostatics.specs.Display.{figuresOf, displayOf}
+use Rattle.hydrostatics.specs.Row.{numbersOf, rowRanges}
+use Rattle.hydrostatics.specs.declared.Row.{Row}
+use Rattle.hydrostatics.proofs.InRows.{first-le}
+
+pub exact : {n : ℕ} → n ≤ 2 ^ 53 → T (inFloat binary64 (pos n))
+unfolding inFloat
+exact {n} h = le→leb n (2 ^ 53) h
+
+pub thousand : ofBits binary64 0x408f_4000_0000_0000 ≡ ofInt binary64 (pos 1_000)
+unfolding ofBits ofInt
+thousand = refl
+
+pub million : ofBits binary64 0x412e_8480_0000_0000 ≡ ofInt binary64 (pos 1_000_000)
+unfolding ofBits ofInt
+million = refl
+
+-- ---- what is displayed
+module _ (row : Row) {place : ℕ} (first : place ≡ firstOutside rowRanges (map pos (numbersOf row))) where
+  pub shown-refused : place < 7 → refused outOfRange place ≡ displayOf row
+  unfolding displayOf
+  shown-refused h = simp (← first, lt-ltb _ _ h, chosen)
+
+  module _ (h : 7 ≤ place) where
+    pub shown-all : firstOutside rowRanges (map pos (numbersOf row)) ≡ 7
+    shown-all = omega (arith, first, first-le rowRanges (map pos (numbersOf row)))
+
+    pub shown : answered (figuresOf row) ≡ displayOf row
+    unfolding displayOf
+    shown = simp (← first, le-ltb _ _ h, chosen)

@@ -1,0 +1,60 @@
+-- Rows as they lie in a table, and the table that is written row by row.
+--     numbers-more, numbers-length, numbers-same       one row more, in the code's `r + 1`; seven numbers a row; equal rows, equal numbers
+--     Written                                          the table after the first r rows
+--     written-none, written-more, written-all          before the first row; one row more, by its part; after the last
+-- Assumes nothing.
+use mathlib.Core.Path.{_≡_, refl, ap, ap₂, subst, _∙_}
+use mathlib.Core.List.{List, _++_}
+use Prim.Native.Nat.{ℕ, zero, suc, _+_, _-_, _*_, _≤_, _<_}
+use native.Mathlib.Nat.{mul-suc}
+use native.Mathlib.Numerals.{add-one}
+use native.Mathlib.Omega.{arith}
+use lib.ListN.{length, take, drop, length-append, length-drop}
+use Rattle.arithmetic.proofs.Parts.{part-filled}
+use Rattle.hydrostatics.specs.Row.{numbersOf}
+use Rattle.hydrostatics.specs.Table.{numbersUpTo}
+use Rattle.hydrostatics.specs.declared.Row.{Row}
+
+pub numbers-more : (row : ℕ → Row) (r : ℕ) → numbersUpTo row (r + 1) ≡ numbersUpTo row r ++ numbersOf (row r)
+unfolding numbersUpTo
+numbers-more row r = rw add-one
+
+pub numbers-length : (row : ℕ → Row) (count : ℕ) → length (numbersUpTo row count) ≡ 7 * count
+unfolding numbersUpTo
+numbers-length row zero = refl
+numbers-length row (suc r) = rw (length-append, numbers-length row r, mul-suc)
+
+pub numbers-same : (f g : ℕ → Row) (count : ℕ) → ((r : ℕ) → r < count → f r ≡ g r) → numbersUpTo f count ≡ numbersUpTo g count
+unfolding numbersUpTo
+numbers-same f g zero h = refl
+numbers-same f g (suc r) h =
+    ap₂ _++_ (numbers-same f g r (λ i l. h i (omega arith))) (ap numbersOf (h r (omega arith)))
+
+pub record Written (row : ℕ → Row) (was : List ℕ) (r : ℕ) (rows : List ℕ) : Type 0 where
+  pub long : length rows ≡ length was
+  pub so-far : rows ≡ numbersUpTo row r ++ drop (7 * r) was
+
+module _ {row : ℕ → Row} {was : List ℕ} where
+  pub written-none : Written row was 0 was
+  unfolding numbersUpTo
+  written-none = record { long = refl; so-far = refl }
+
+  module _ {r : ℕ} {rows : List ℕ} (so : Written row was r rows) where
+    -- the part from 7r on came back with the row in front
+    pub written-more :
+        (back : List ℕ)
+        → 7 * (r + 1) ≤ length was
+        → back ≡ numbersOf (row r) ++ drop 7 (take (length rows - 7 * r) (drop (7 * r) rows))
+        → Written row was (r + 1) (take (7 * r) rows ++ (back ++ drop (length rows - 7 * r) (drop (7 * r) rows)))
+    written-more back h e =
+        let next : 7 * (r + 1) ≡ 7 * r + 7 = omega arith in
+        let whole = take (7 * r) rows ++ (back ++ drop (length rows - 7 * r) (drop (7 * r) rows)) in
+        let filled : whole ≡ numbersUpTo row (r + 1) ++ drop (7 * (r + 1)) was =
+        rw (numbers-more row r, next) (part-filled (7 * r) 7 (numbersUpTo row r) (numbersOf (row r)) rows was back (numbers-length row r) (so .so-far) e) in
+        record {
+          long = ap length filled ∙ length-append (numbersUpTo row (r + 1)) (drop (7 * (r + 1)) was) ∙ omega (arith, numbers-length row (r + 1), length-drop (7 * (r + 1)) was);
+          so-far = filled;
+        }
+
+    pub written-all : {count : ℕ} → r ≡ count → rows ≡ numbersUpTo row count ++ drop (7 * count) was
+    written-all e = subst (λ count. rows ≡ numbersUpTo row count ++ drop (7 * count) was) e (so .so-far)

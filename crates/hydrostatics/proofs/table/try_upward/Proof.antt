@@ -1,0 +1,83 @@
+-- The rows before row r have passed and are kept; a row that does not pass is the first. Assumes nothing.
+use Prim.Native.Nat.{_-_, _≤_}
+use mathlib.Core.Path.{refl}
+use native.Mathlib.Omega.{arith}
+use borrow.Author.Needs.{needs}
+use Rattle.hydrostatics.proofs.Passing.{Passing, passing-none, passing-more, passing-all, too-low, too-high, refusal}
+use Rattle.hydrostatics.proofs.table.try_upward.Statement.{statement}
+use Rattle.hydrostatics.proofs.table.try_upward.Tie as tie
+
+abbrev Inv-loop : tie.InvT-loop
+Inv-loop table u q x p count rows₀ before₀ r₀ rows before r = (r ≤ count) × Passing table p r before rows
+
+abbrev μ-loop : tie.MeasureT-loop
+μ-loop table u q x p count rows₀ before₀ r₀ rows before r = count - r
+
+sub-count : tie.Need-sub-count Inv-loop μ-loop
+sub-count c = omega arith
+
+loop-holds : tie.Need-loop-holds Inv-loop μ-loop
+loop-holds c = (omega arith, passing-none refl)
+
+add-row-at : tie.Need-add-row-at Inv-loop μ-loop
+add-row-at c = omega arith
+
+row-at-requires : tie.Need-row-at-requires Inv-loop μ-loop
+row-at-requires c κs = let given = c .before .before .before .before .pre in (given .0, given .1, omega arith)
+
+refused-requires : tie.Need-refused-requires Inv-loop μ-loop
+refused-requires c κs = search needs
+
+returns : tie.Need-returns Inv-loop μ-loop
+returns c =
+    let l = c .before .before .before .before in
+    refusal (too-low (l .loop .inv .1) (c .before .before .row-at .ensures) (c .before .if1 .taken) _ (omega arith)) (c .refused .ensures)
+
+refused-requires-2 : tie.Need-refused-requires-2 Inv-loop μ-loop
+refused-requires-2 c κs = search needs
+
+returns-2 : tie.Need-returns-2 Inv-loop μ-loop
+returns-2 c =
+    let l = c .before .before .before .before .before in
+    refusal (too-high (l .loop .inv .1) (c .before .before .before .row-at .ensures) (c .before .before .if1 .left) (c .before .if2 .taken) _ (omega arith)) (c .refused2 .ensures)
+
+mul-rows : tie.Need-mul-rows Inv-loop μ-loop
+mul-rows c = omega arith
+
+array-set-from-rows : tie.Need-array-set-from-rows Inv-loop μ-loop
+array-set-from-rows c = omega arith
+
+add-r : tie.Need-add-r Inv-loop μ-loop
+add-r c = omega arith
+
+loop-less : tie.Need-loop-less Inv-loop μ-loop
+loop-less c = omega arith
+
+loop-again : tie.Need-loop-again Inv-loop μ-loop
+loop-again c =
+    let l = c .before .before .before .before in
+    (omega arith, passing-more (l .loop .inv .1) (c .before .before .row-at .ensures) (c .before .if1 .left) (c .if2 .left) (omega arith))
+
+returns-3 : tie.Need-returns-3 Inv-loop μ-loop
+returns-3 c = passing-all (c .before .loop .inv .1) (omega arith)
+
+pub try-upward-spec : {M : Type 1} → statement M
+try-upward-spec =
+    tie.close
+    (tie.spec
+    Inv-loop
+    μ-loop
+    sub-count
+    loop-holds
+    add-row-at
+    row-at-requires
+    refused-requires
+    returns
+    refused-requires-2
+    returns-2
+    mul-rows
+    array-set-from-rows
+    add-r
+    loop-less
+    loop-again
+    returns-3)

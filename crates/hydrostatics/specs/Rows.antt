@@ -1,0 +1,41 @@
+-- What the rows of a hull come to: the numbers of all rows, or the first refusal in the paper's order.
+use Prim.Native.Nat.{ℕ, zero, suc, _+_, _*_, _-_}
+use mathlib.Core.Bool.{not}
+use mathlib.Core.List.{List, [], _++_, map}
+use lib.Dec.{leb, ltb, eqb}
+use lib.IntN.{pos}
+use lib.ListN.{length}
+use Rattle.arithmetic.specs.Choice.{if_then_else_}
+use Rattle.ranges.specs.Fields.{particulars, halfBreadth}
+use Rattle.ranges.specs.Outcome.{Outcome, answered, refused, andThen}
+use Rattle.ranges.specs.Outside.{firstOutside, numbersOf}
+use Rattle.ranges.specs.Refusals.{outOfRange, wrongSize, displacementNotRising, metacentreTooHigh, placeOfHalfBreadths, halfBreadthTable, rowTable}
+use Rattle.ranges.specs.Sizes.{pointsOf}
+use Rattle.ranges.specs.declared.Particulars.{Particulars}
+use Rattle.hydrostatics.specs.Row.{rowOf, highestMetacentre}
+use Rattle.hydrostatics.specs.Row as Row
+
+module _ (table : List ℕ) (p : Particulars) where
+  -- the displacement of the row before row r; before the first there is none, so that a displacement of 0 is not above it
+  unfoldable pub displacementBefore : ℕ → ℕ
+  displacementBefore zero = 0
+  displacementBefore (suc r) = rowOf table p r .displacement
+
+  -- the numbers of the first `count` rows, "8 and 9 row by row upward"
+  unfoldable pub rowsUpTo : ℕ → Outcome (List ℕ)
+  rowsUpTo zero = answered []
+  rowsUpTo (suc r) = andThen (rowsUpTo r) (λ before.
+      if leb (rowOf table p r .displacement) (displacementBefore r) then refused displacementNotRising r
+      else if ltb highestMetacentre (rowOf table p r .km) then refused metacentreTooHigh r
+      else answered (before ++ Row.numbersOf (rowOf table p r)))
+
+  -- "Rows: particulars, 7 (half-breadths exact, room at least 7(m−1)), half-breadths, then 8 and 9"
+  unfoldable pub rowsOf : ℕ → Outcome (List ℕ)
+  rowsOf room =
+      let badParticular = firstOutside particulars (numbersOf p) in
+      let badHalfBreadth = firstOutside halfBreadth (map pos table) in
+      if ltb badParticular (length particulars) then refused outOfRange badParticular
+      else if not (eqb (length table) (pointsOf (p .n) (p .m))) then refused wrongSize halfBreadthTable
+      else if ltb room (7 * (p .m - 1)) then refused wrongSize rowTable
+      else if ltb badHalfBreadth (length table) then refused outOfRange (placeOfHalfBreadths + badHalfBreadth)
+      else rowsUpTo (p .m - 1)

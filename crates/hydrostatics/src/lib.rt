@@ -1,0 +1,170 @@
+// The rows of a hull, by waterplanes, and their display.
+mod table;
+mod waterplanes;
+
+ghost use mathlib.Core.Path.{_≡_};
+ghost use mathlib.Core.List.{map};
+ghost use Prim.Native.Nat.{_<_, _≤_, _^_};
+ghost use lib.Ieee as Ieee;
+ghost use lib.Ieee.{binary64};
+ghost use lib.IntN.{pos};
+ghost use lib.ListN.{getD};
+ghost use Rattle.ranges.specs.Fields.{_to_, within};
+ghost use Rattle.ranges.specs.Outside.{firstOutside};
+ghost use Rattle.hydrostatics.specs.Display.{paper, figuresOf, displayOf};
+ghost use Rattle.hydrostatics.specs.Promise.{MakesRows};
+ghost use Rattle.hydrostatics.specs.Row.{numbersOf, rowRanges};
+use ranges::Particulars;
+use ranges::Refusal;
+use table::fill_rows;
+use table::refused;
+
+// The seven numbers of a row: mm, kg, mm, mm, mm, mm, mm².
+pub struct Row {
+    pub draft: u64,
+    pub displacement: u64,
+    pub lcb: u64,
+    pub kb: u64,
+    pub bm: u64,
+    pub km: u64,
+    pub area: u64,
+}
+
+// What making the rows of a hull answers: how many there are, or the refusal.
+pub enum Rows {
+    Made(usize),
+    Refused(Refusal),
+}
+
+// A row for display: metres, tonnes, and square metres for the area.
+pub struct Figures {
+    pub draft: f64,
+    pub displacement: f64,
+    pub lcb: f64,
+    pub kb: f64,
+    pub bm: f64,
+    pub km: f64,
+    pub area: f64,
+}
+
+// What displaying a row answers: its figures, or the refusal.
+pub enum Display {
+    Shown(Figures),
+    Refused(Refusal),
+}
+
+// The rows of a hull into the lent table, seven numbers each.
+pub fn make_rows(half_breadths: &[u64], p: Particulars, rows: &mut [u64]) -> Rows
+    ensures { λ r. ⌜ MakesRows (now («half_breadths» .entry)) p (now (rows .entry)) (now (rows .exit)) r ⌝ }
+{
+    let particular = ranges::particular_outside(p);
+    if particular < ranges::PARTICULAR_COUNT {
+        return refused(Refusal::OUT_OF_RANGE, particular);
+    }
+    let n = p.n;
+    let m = p.m;
+    if half_breadths.len() != (n + 1) * (m + 1) {
+        return refused(Refusal::WRONG_SIZE, Refusal::HALF_BREADTH_TABLE);
+    }
+    if rows.len() < 7 * (m - 1) {
+        return refused(Refusal::WRONG_SIZE, Refusal::ROW_TABLE);
+    }
+    let outside = ranges::half_breadth_outside(half_breadths);
+    if outside < half_breadths.len() {
+        return refused(Refusal::OUT_OF_RANGE, Refusal::HALF_BREADTHS_AT + outside);
+    }
+    fill_rows(half_breadths, p, rows)
+}
+
+// How many numbers a row has: the place after the last.
+const NUMBERS: usize = 7;
+
+// The range of each number of a row: its least and its greatest.
+const LEAST: [u64; 7] = [20, 1, 0, 0, 0, 0, 0];
+
+const GREATEST: [u64; 7] = [
+    10_000, // draft
+    17_600_000, // displacement
+    100_000, // LCB
+    10_000, // KB
+    100_000, // BM
+    100_000, // KM
+    1_600_000_000, // area
+];
+
+// A metre in mm, which is also a tonne in kg, and a square metre in mm².
+const METRE: f64 = 1_000.0;
+
+const SQUARE_METRE: f64 = 1_000_000.0;
+
+// Whether a number is in the range of place i of a row.
+fn in_range(i: usize, n: u64) -> bool
+    requires { ⌜ i < 7 ⌝ }
+    ensures { λ r. ⌜ r ≡ within (getD rowRanges i (1 to 0)) (pos n) ⌝ }
+{
+    if n < LEAST[i] {
+        return false;
+    }
+    n <= GREATEST[i]
+}
+
+// The place of the first number of a row out of range, or 7.
+pub fn row_outside(row: Row) -> usize
+    ensures { λ r. ⌜ r ≡ firstOutside rowRanges (map pos (numbersOf row)) ⌝ }
+{
+    let numbers = [
+        row.draft,
+        row.displacement,
+        row.lcb,
+        row.kb,
+        row.bm,
+        row.km,
+        row.area,
+    ];
+    let mut i: usize = 0;
+    while i < NUMBERS {
+        if !in_range(i, numbers[i]) {
+            return i;
+        }
+        i += 1;
+    }
+    i
+}
+
+// n over a unit: one division, of a whole number that is converted exactly.
+fn divided(n: u64, unit: f64) -> f64
+    requires { ⌜ n ≤ 2 ^ 53 ⌝ }
+    ensures { λ r. ⌜ r ≡ Ieee.div binary64 (Ieee.ofInt binary64 (pos n)) unit ⌝ }
+{
+    n as f64 / unit
+}
+
+// The figures of a row whose numbers are in range.
+fn figures_of(row: Row) -> Figures
+    requires { ⌜ firstOutside rowRanges (map pos (numbersOf row)) ≡ 7 ⌝ }
+    ensures { λ r. ⌜ r ≡ figuresOf row ⌝ }
+{
+    Figures {
+        draft: divided(row.draft, METRE),
+        displacement: divided(row.displacement, METRE),
+        lcb: divided(row.lcb, METRE),
+        kb: divided(row.kb, METRE),
+        bm: divided(row.bm, METRE),
+        km: divided(row.km, METRE),
+        area: divided(row.area, SQUARE_METRE),
+    }
+}
+
+// A row for display, in metres, tonnes and square metres.
+pub fn display_row(row: Row) -> Display
+    ensures { λ r. ⌜ paper r ≡ displayOf row ⌝ }
+{
+    let place = row_outside(row);
+    if place < NUMBERS {
+        return Display::Refused(Refusal {
+            number: Refusal::OUT_OF_RANGE,
+            place,
+        });
+    }
+    Display::Shown(figures_of(row))
+}

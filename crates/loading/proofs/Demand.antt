@@ -1,0 +1,65 @@
+-- Demand 3, from the laws of the rules alone.
+--     demand-3        for any sound rules and any usable table
+-- Of the conditions themselves: `Demand3`. Assumes nothing.
+use mathlib.Core.Path.{sym, ap, subst, subst₂}
+use Prim.Native.Nat.{ℕ, _+_, _≤_, _<_}
+use native.Mathlib.Omega.{arith}
+use lib.Dec.{T}
+use lib.IntN.{pos, _-ℤ_}
+use lib.Signed.{_≤ℤ_}
+use Rattle.arithmetic.specs.Rounding.{roundedUp}
+use Rattle.arithmetic.proofs.Rounding.{up-of, up-mono}
+use Rattle.loading.specs.Demand.{Demand3}
+use Rattle.loading.specs.Fraction.{LessThanThreeBelow}
+use Rattle.loading.specs.Load.{Load, weight, verticalMoment, transverseMoment, Lowered}
+use Rattle.loading.specs.Rules.{Rules}
+use Rattle.loading.specs.Stability.{passes, kmAt, gmAt, freeSurface, freeSurfaceParts, km, gm, unroundedGM, Passes}
+use Rattle.loading.specs.Straight.{Usable}
+use Rattle.loading.specs.Table.{Table, Within, placeOf, draftOf}
+use Rattle.loading.proofs.Difference.{difference-le}
+use Rattle.loading.proofs.Drafts.{draft-is-greatest, heavier-draft}
+use Rattle.loading.proofs.Laws.{Sound}
+use Rattle.loading.proofs.Lowering.{lower-weight, lower-vertical, lower-transverse, pass-mono}
+use Rattle.loading.proofs.Margin.{less-than-three}
+use Rattle.loading.proofs.Places.{place-stands}
+use Rattle.loading.proofs.Surfaces.{lower-surface, surface-enough, surface-close}
+
+-- less KG, more GM
+less-kg : (km a b W : ℕ) → 0 < W → b ≤ a → (pos km -ℤ pos (roundedUp a W)) ≤ℤ (pos km -ℤ pos (roundedUp b W))
+less-kg km a b W p h =
+    difference-le km (roundedUp a W) km (roundedUp b W) (omega (arith, up-mono (up-of b W p) (up-of a W p) h))
+
+module _ (rules : Rules) (sound : Sound rules) (t : Table) (usable : Usable t) where
+  gm-higher : (k l : Load) → Within t (weight l) → Lowered k l → gm rules t l ≤ℤ gm rules t k
+  gm-higher k l w h =
+      subst (λ W. gm rules t l ≤ℤ gmAt rules t W (verticalMoment k) (freeSurface rules k)) (sym (lower-weight k l h))
+      (less-kg (km rules t l) (verticalMoment l + freeSurface rules l) (verticalMoment k + freeSurface rules k) (weight l)
+      (omega arith)
+      (omega (arith, lower-vertical k l h, lower-surface rules sound k l h)))
+
+  pass-kept : (k l : Load) → Within t (weight l) → Lowered k l → Passes rules t l → Passes rules t k
+  pass-kept k l w h p =
+      pass-mono (weight k) (transverseMoment k) (gm rules t l) (gm rules t k) (gm-higher k l w h)
+      (subst₂ (λ W m. T (passes W (gm rules t l) m)) (sym (lower-weight k l h)) (sym (lower-transverse k l h)) p)
+
+  gm-close : (l : Load) → Within t (weight l) → LessThanThreeBelow (gm rules t l) (unroundedGM rules t l)
+  gm-close l w =
+      let W = weight l in
+      let p = placeOf t W in
+      let laden : 0 < W = omega arith in
+      less-than-three (rules .reading .unrounded p W) (rules .surface .unit) W (km rules t l) (roundedUp (verticalMoment l + freeSurface rules l) W) (verticalMoment l) (freeSurface rules l) (freeSurfaceParts rules l)
+      (sound .surface .unit-some)
+      (sound .reading .rounds W p (place-stands t W w))
+      (up-of (verticalMoment l + freeSurface rules l) W laden)
+      (surface-enough rules sound l)
+      (surface-close rules sound l laden)
+
+pub demand-3 : (rules : Rules) → Sound rules → (t : Table) → Usable t → Demand3 rules t
+demand-3 rules sound t usable = record {
+  draft-is-greatest = λ l. draft-is-greatest t usable (weight l);
+  heavier-never-floats-higher = λ k l. heavier-draft t usable (weight k) (weight l);
+  equal-weights-float-alike = λ k l e. (ap (draftOf t) e, ap (kmAt rules t) e);
+  lowering-never-lowers-gm = gm-higher rules sound t usable;
+  lowering-keeps-a-pass = pass-kept rules sound t usable;
+  gm-is-close = gm-close rules sound t usable;
+}

@@ -1,0 +1,106 @@
+-- Where a weight within a usable table floats.
+--     line-most                      a straight line is nowhere above its higher end
+--     floats-on                      draft and KM at a row's own weight
+--     next-there                     at any other weight there is a row above,
+--     km-line, draft-line            W lies between the two,
+--     floats-between                 and draft and KM lie on the straight line
+-- Assumes nothing.
+use mathlib.Core.Path.{_≡_, refl, sym, ap, subst, _∙_}
+use mathlib.Core.List.{List}
+use Prim.Native.Nat.{ℕ, _+_, _-_, _*_, _/_, _≤_, _<_}
+use native.Mathlib.Nat.{mul-le-mul-right, mul-add, div-one, zero-mul, zero-add}
+use native.Mathlib.Decide.{decLt}
+use native.Mathlib.Omega.{arith}
+use Rattle.arithmetic.proofs.Rounding.{down-of, down-mono, down-whole}
+use Rattle.hydrostatics.specs.Row.{highestMetacentre}
+use Rattle.hydrostatics.specs.Usable.{rowIn, spacing}
+use Rattle.hydrostatics.specs.declared.Row.{Row}
+use Rattle.loading.specs.Afloat.{RowsUsable, RowBelow, OnLine, Floats}
+use Rattle.loading.specs.Paper.{paperRules, onLine}
+use Rattle.loading.specs.Table.{Table, Within, Place, on, between, tableOf, lastRow, placeOf, draftAt, line}
+use Rattle.loading.specs.declared.floating.Floating.{Floating}
+use Rattle.loading.proofs.Tables.{last-row, place-on, place-between}
+use Rattle.loading.proofs.Usability.{UsableRow, usable-at, rises-at}
+
+pub line-most : {a b lo hi w : ℕ} → OnLine a b lo hi w → line a b lo hi w / (hi - lo) ≤ highestMetacentre
+line-most {a} {b} {lo} {hi} {w} l =
+    let top = highestMetacentre in
+    let some : 0 < hi - lo = omega arith in
+    let span : hi - lo ≡ (hi - w) + (w - lo) = omega arith in
+    let high : line a b lo hi w ≤ top * (hi - lo) = omega (arith, ap (λ n. top * n) span ∙ mul-add top (hi - w) (w - lo), mul-le-mul-right (hi - w) (l .first), mul-le-mul-right (w - lo) (l .second)) in
+    down-mono (down-of (line a b lo hi w) (hi - lo) some) (down-whole top (hi - lo) some) high
+
+-- a weight within a usable table, and the row below it
+pub record Afloat (rows : List ℕ) (count W r : ℕ) (row : Row) : Type 0 where
+  pub usable : RowsUsable rows count
+  pub within : Within (tableOf rows count) W
+  pub below : RowBelow rows count W r
+  pub here : row ≡ rowIn rows r
+
+module _ {rows : List ℕ} {count W r : ℕ} {row : Row} (a : Afloat rows count W r row) where
+  at-place : (p : Place) → placeOf (tableOf rows count) W ≡ p → (d k : ℕ) → d ≡ draftAt (spacing rows) p W → k ≡ onLine p W .top / onLine p W .bottom → k ≤ highestMetacentre → Floats rows count W (record { draft = d; km = k })
+  at-place p e d k f g h = record {
+    draft = f ∙ ap (λ q. draftAt (spacing rows) q W) (sym e);
+    km = g ∙ ap (λ q. onLine q W .top / onLine q W .bottom) (sym e);
+    km-most = h;
+  }
+
+  row-usable : UsableRow rows r
+  row-usable = usable-at rows count (a .usable) r (a .below .there)
+
+  pub floats-on : W ≡ row .displacement → Floats rows count W (record { draft = row .draft; km = row .km })
+  floats-on e =
+      let own : W ≡ rowIn rows r .displacement = e ∙ ap (λ s. s .displacement) (a .here) in
+      rw (a .here)
+      (at-place (on (rowIn rows r)) (a .below .falls ∙ place-on rows count r W (a .below .next-above) (a .below .there) own) _ _
+      refl (sym (div-one (rowIn rows r .km))) (row-usable .ranged .km .1))
+
+  module _ (n : W ≡ row .displacement → ⊥) where
+    not-own : W ≡ rowIn rows r .displacement → ⊥
+    not-own e = n (e ∙ ap (λ s. s .displacement) (sym (a .here)))
+
+    pub next-there : r + 1 < count
+    next-there = by-order (decLt (r + 1) count)
+      where
+        by-order : Dec (r + 1 < count) → r + 1 < count
+        by-order (yes h) = h
+        by-order (no h) =
+            let b = a .below in
+            let e : count - 1 ≡ r = omega arith in
+            let last : lastRow (tableOf rows count) ≡ rowIn rows r = last-row rows count (omega arith) ∙ ap (rowIn rows) e in
+            absurd (not-own (omega (arith, b .not-above, a .within .most, ap (λ s. s .displacement) last)))
+
+    -- the next row
+    module _ {next : Row} (above : next ≡ rowIn rows (r + 1)) where
+      next-usable : UsableRow rows (r + 1)
+      next-usable = usable-at rows count (a .usable) (r + 1) next-there
+
+      pub km-line : OnLine (row .km) (next .km) (row .displacement) (next .displacement) W
+      km-line =
+          rw (a .here, above)
+          (record {
+            low = a .below .not-above;
+            high = a .below .next-above next-there;
+            most = next-usable .ranged .displacement .1;
+            first = row-usable .ranged .km .1;
+            second = next-usable .ranged .km .1;
+          })
+
+      -- and the distance between waterlines
+      module _ {d : ℕ} (half : d ≡ spacing rows) where
+        pub draft-line : OnLine 0 d (row .displacement) (next .displacement) W
+        draft-line =
+            let l = km-line in
+            record { low = l .low; high = l .high; most = l .most; first = omega arith; second = omega (arith, row-usable .spacing-most) }
+
+        module _ {more : ℕ} (e : more ≡ line 0 d (row .displacement) (next .displacement) W / (next .displacement - row .displacement)) where
+          pub draft-fits : row .draft + more ≤ 10_000 + highestMetacentre
+          draft-fits = rw e (omega (arith, line-most draft-line, row-usable .ranged .draft .1, ap (λ s. s .draft) (a .here)))
+
+          pub floats-between : {km : ℕ} → km ≡ line (row .km) (next .km) (row .displacement) (next .displacement) W / (next .displacement - row .displacement) → Floats rows count W (record { draft = row .draft + more; km = km })
+          floats-between f =
+              let most = line-most km-line in
+              rw (e, f, half)
+              (at-place (between row next)
+              (a .below .falls ∙ place-between rows count r W next-there (a .below .next-above next-there) not-own ∙ sym (rw (a .here, above)))
+              _ _ (simp (zero-mul, zero-add)) refl most)

@@ -1,0 +1,172 @@
+-- The paper's order of refusals, step by step.
+--     too-light, too-heavy, within-table, floats-there      what is aboard against the rows
+--     after-refused, after-passed                           the tanks before that
+--     wrong-items, wrong-tanks, wrong-rows                  the sizes of the lent tables,
+--     Sized, rows-whole                                     which are right;
+--     bad-row, bad-item, after-all                          the rows and the items,
+--     loadable                                              which are allowed
+-- Assumes nothing.
+use mathlib.Core.Path.{_≡_, refl, sym, ap, ap₂, subst, _∙_}
+use mathlib.Core.Bool.{Bool, true, false, not, _&&_}
+use mathlib.Core.List.{List}
+use Prim.Native.Nat.{ℕ, _+_, _-_, _/_, _%_, _≤_, _<_}
+use native.Mathlib.Omega.{arith}
+use borrow.Author.Tests.{lt-ltb, le-ltb, eqb-true, leb-true}
+use lib.Dec.{leb, ltb, eqb}
+use lib.IntN.{ℤ}
+use lib.ListN.{length}
+use Rattle.arithmetic.specs.Choice.{if_then_else_}
+use Rattle.arithmetic.proofs.Choice.{chosen}
+use Rattle.hydrostatics.specs.Usable.{rowIn, usableUpTo}
+use Rattle.hydrostatics.proofs.InRows.{first-le}
+use Rattle.ranges.specs.Fields.{item}
+use Rattle.ranges.specs.Outcome.{Outcome, answered, refused, andThen}
+use Rattle.ranges.specs.Outside.{firstOutside}
+use Rattle.ranges.specs.Refusals.{outOfRange, wrongSize, rowsNotUsable, tooLight, tooHeavy}
+use Rattle.ranges.specs.declared.Refusal.{Refusal}
+use Rattle.loading.specs.Aboard as Aboard
+use Rattle.loading.specs.Aboard.{_with_, ofItem, ofTank, altogether, aboardOf, tanksAboard, ItemsFit, TanksWhole, TanksTried}
+use Rattle.loading.specs.Afloat.{Floats, RowsWhole, RowsUsable, RowsTried}
+use Rattle.loading.specs.Condition.{tanksFrom, floats, conditionOf}
+use Rattle.ranges.specs.Sizes.{wholeRecords}
+use Rattle.loading.specs.Load.{Load, weight}
+use Rattle.loading.specs.Paper.{paperRules}
+use Rattle.loading.specs.Records.{itemsOf, tanksOf, loadOf}
+use Rattle.loading.specs.Stability.{kmAt}
+use Rattle.loading.specs.Steady.{conditionWith, floatsWith, afterItems, Loadable}
+use Rattle.loading.specs.Table.{Table, Within, tableOf, lastRow, draftOf}
+use Rattle.loading.specs.declared.Aboard.{Aboard}
+use Rattle.loading.specs.declared.Condition.{Condition}
+use Rattle.loading.specs.declared.floating.Floating.{Floating}
+use Rattle.loading.specs.declared.tanks.Trial.{Trial}
+use Rattle.loading.specs.declared.tanks.Trial.the-variants as Trial
+use Rattle.loading.proofs.Moments.{weight-is, condition-is}
+use Rattle.loading.proofs.Outcomes.{both, answered-then}
+use Rattle.loading.proofs.Tables.{last-row}
+
+-- ---- what is aboard against the rows, whose first and last displacements are these
+module _ (rows : List ℕ) (count : ℕ) (some : 0 < count) (a : Aboard) {first last : ℕ} (f : first ≡ rowIn rows 0 .displacement) (l : last ≡ rowIn rows (count - 1) .displacement) where
+  abbrev t : Table
+  t = tableOf rows count
+
+  last-is : last ≡ lastRow (tableOf rows count) .displacement
+  last-is = l ∙ ap (λ r. r .displacement) (sym (last-row rows count some))
+
+  pub too-light : a .weight < first → floatsWith (tableOf rows count) a ≡ refused tooLight 0
+  unfolding floatsWith
+  too-light h = simp (lt-ltb (a .weight) (t .first .displacement) (omega (arith, f)), chosen)
+
+  module _ (low : first ≤ a .weight) where
+    not-light : ltb (a .weight) (t .first .displacement) ≡ false
+    not-light = le-ltb (a .weight) (t .first .displacement) (omega (arith, f))
+
+    pub too-heavy : last < a .weight → floatsWith (tableOf rows count) a ≡ refused tooHeavy 0
+    unfolding floatsWith
+    too-heavy h = simp (not-light, lt-ltb (lastRow t .displacement) (a .weight) (omega (arith, last-is)), chosen)
+
+    module _ (high : a .weight ≤ last) where
+      pub within-table : Within (tableOf rows count) (a .weight)
+      within-table = record { least = omega (arith, f); most = omega (arith, last-is) }
+
+      pub floats-there : {c : Condition} {at : Floating} → Floats rows count (a .weight) at → c ≡ conditionWith a (at .draft) (at .km) → answered c ≡ floatsWith (tableOf rows count) a
+      unfolding floatsWith
+      floats-there g e =
+          ap answered (e ∙ ap₂ (conditionWith a) (g .draft) (g .km))
+          ∙ sym (simp (not-light, le-ltb (lastRow t .displacement) (a .weight) (within-table .most), chosen))
+
+floats-is : (t : Table) (l : Load) → floatsWith t (aboardOf l) ≡ floats t l
+unfolding floatsWith floats
+floats-is t l =
+    let of : ℕ → Condition → Outcome Condition = λ W c. if ltb W (t .first .displacement) then refused tooLight 0 else if ltb (lastRow t .displacement) W then refused tooHeavy 0 else answered c in
+    ap (λ W. of W (conditionWith (aboardOf l) (draftOf t W) (kmAt paperRules t W))) (weight-is l)
+    ∙ ap (of (weight l)) (condition-is l t)
+
+-- ---- the tanks before that
+module _ (items tanks : List ℤ) (t : Table) where
+  refused-first : {A B C : Type 0} (o : Outcome A) (b : B) (next : A → Outcome C) (n p : ℕ) → andThen o (λ a. answered b) ≡ refused n p → andThen o next ≡ refused n p
+  unfolding andThen
+  refused-first (answered a) b next n p e = let z : _≡_ {A = ℕ} 0 1 = cc in absurd (omega arith)
+  refused-first (refused m q) b next n p e = cc
+
+  pub after-refused : {r : Trial} {refusal : Refusal} → TanksTried tanks r → r ≡ Trial.Refused refusal → refused (refusal .number) (refusal .place) ≡ afterItems items tanks t
+  unfolding afterItems tanksAboard
+  after-refused {r} {refusal} tried e =
+      sym (refused-first (tanksFrom 0 tanks) _ (λ last. floats t (loadOf items tanks)) (refusal .number) (refusal .place) (sym (tried .is) ∙ ap Aboard.tried e))
+
+  pub after-passed : {r : Trial} {a b : Aboard} → TanksTried tanks r → r ≡ Trial.Passed b → a ≡ altogether ofItem (itemsOf items) → floatsWith t (a with b) ≡ afterItems items tanks t
+  unfolding afterItems tanksAboard andThen
+  after-passed {r} {a} {b} tried e f =
+      let trial = answered-then (tanksFrom 0 tanks) _ (sym (tried .is) ∙ ap Aboard.tried e) in
+      let same : altogether ofTank (tanksOf tanks) ≡ b = cc (trial .2) in
+      ap (λ c. floatsWith t c) (ap₂ _with_ f (sym same)) ∙ floats-is t (loadOf items tanks) ∙ sym (rw (trial .1))
+
+-- ---- the sizes of the lent tables
+module _ (width : ℕ) (most n : ℕ) where
+  records-are : wholeRecords width most n ≡ true → (n % width ≡ 0) × (n / width ≤ most)
+  unfolding wholeRecords
+  records-are e = let h = both (eqb (n % width) 0) (leb (n / width) most) e in (eqb-true (n % width) 0 (h .0), leb-true (n / width) most (h .1))
+
+-- the three are right
+pub record Sized (items tanks : List ℤ) (rows : List ℕ) : Type 0 where
+  pub items-whole : wholeRecords 4 32 (length items) ≡ true
+  pub tanks-whole : wholeRecords 8 16 (length tanks) ≡ true
+  pub rows-allowed : wholeRecords 7 19 (length rows) && leb 2 (length rows / 7) ≡ true
+
+module _ (items tanks : List ℤ) (rows : List ℕ) where
+  pub wrong-items : wholeRecords 4 32 (length items) ≡ false → conditionOf items tanks rows ≡ refused wrongSize 1
+  unfolding conditionOf
+  wrong-items i = simp (i, chosen)
+
+  pub wrong-tanks : wholeRecords 4 32 (length items) ≡ true → wholeRecords 8 16 (length tanks) ≡ false → conditionOf items tanks rows ≡ refused wrongSize 2
+  unfolding conditionOf
+  wrong-tanks i k = simp (i, k, chosen)
+
+  pub wrong-rows : wholeRecords 4 32 (length items) ≡ true → wholeRecords 8 16 (length tanks) ≡ true → wholeRecords 7 19 (length rows) && leb 2 (length rows / 7) ≡ false → conditionOf items tanks rows ≡ refused wrongSize 3
+  unfolding conditionOf
+  wrong-rows i k r = simp (i, k, r, chosen)
+
+  module _ (sized : Sized items tanks rows) where
+    pub rows-whole : RowsWhole rows (length rows / 7)
+    rows-whole =
+        let h = both (wholeRecords 7 19 (length rows)) (leb 2 (length rows / 7)) (sized .rows-allowed) in
+        let whole = records-are 7 19 (length rows) (h .0) in
+        record { whole = omega arith; least = leb-true 2 (length rows / 7) (h .1); most = whole .1 }
+
+    -- ---- the rows and the items
+    sizes-passed : conditionOf items tanks rows ≡ andThen (usableUpTo rows (length rows / 7)) (λ good. if ltb (firstOutside item items) (length items) then refused outOfRange (1_000 + firstOutside item items) else afterItems items tanks (tableOf rows (length rows / 7)))
+    unfolding conditionOf afterItems
+    sizes-passed = simp (sized .items-whole, sized .tanks-whole, sized .rows-allowed, chosen)
+
+    pub bad-row : {bad : ℕ} → RowsTried rows (length rows / 7) bad → bad < length rows / 7 → conditionOf items tanks rows ≡ refused rowsNotUsable bad
+    unfolding andThen
+    bad-row {bad} tried h = sizes-passed ∙ rw (tried .is, lt-ltb bad (length rows / 7) h) (simp chosen)
+
+    -- no row is bad
+    module _ {bad : ℕ} (tried : RowsTried rows (length rows / 7) bad) (last : length rows / 7 ≤ bad) where
+      usable : usableUpTo rows (length rows / 7) ≡ answered (length rows / 7)
+      usable = tried .is ∙ simp (le-ltb bad (length rows / 7) last, chosen)
+
+      rows-passed : conditionOf items tanks rows ≡ (if ltb (firstOutside item items) (length items) then refused outOfRange (1_000 + firstOutside item items) else afterItems items tanks (tableOf rows (length rows / 7)))
+      unfolding andThen
+      rows-passed = sizes-passed ∙ rw usable
+
+      module _ {outside : ℕ} (o : outside ≡ firstOutside item items) where
+        pub bad-item : outside < length items → conditionOf items tanks rows ≡ refused outOfRange (1_000 + outside)
+        bad-item h = rows-passed ∙ rw (← o, lt-ltb outside (length items) h) (simp chosen)
+
+        module _ (inside : length items ≤ outside) where
+          pub after-all : conditionOf items tanks rows ≡ afterItems items tanks (tableOf rows (length rows / 7))
+          after-all = rows-passed ∙ rw (← o, le-ltb outside (length items) inside) (simp chosen)
+
+          all-inside : firstOutside item items ≡ length items
+          all-inside = omega (arith, o, first-le item items)
+
+          pub loadable : Loadable items tanks rows (length rows / 7)
+          loadable =
+              let i = records-are 4 32 (length items) (sized .items-whole) in
+              let k = records-are 8 16 (length tanks) (sized .tanks-whole) in
+              record {
+                items-fit = record { whole = i .0; few = omega arith; in-range = all-inside };
+                tanks-whole = record { whole = k .0; few = omega arith };
+                rows-usable = record { size = rows-whole; usable = usable };
+              }

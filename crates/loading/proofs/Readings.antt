@@ -1,0 +1,71 @@
+-- The paper's rules meet the laws that demand 3 asks, and its factor is the one that the paper names.
+--     straightLine-sound, rectangle-sound      KM on the straight line; a rectangle's surface
+--     paper-sound, demand-3-of-the-paper       so demand 3 under the paper's rules
+--     factor-between, factor-on                the bottom of the unrounded GM, between two rows and at a row's own weight
+--     km-on                                    at a row's own weight, that row's KM
+-- Assumes nothing.
+use mathlib.Core.Path.{_≡_, refl}
+use mathlib.Core.Bool.{Bool, true, false, _&&_}
+use Prim.Native.Nat.{ℕ, _-_, _*_, _≤_, _<_}
+use native.Mathlib.Nat.{mul-le-mul, pow-le-pow-left, le-refl, div-one, mul-comm}
+use native.Mathlib.Omega.{arith}
+use Rattle.arithmetic.specs.Choice.{if_then_else_}
+use Rattle.arithmetic.proofs.Choice.{chosen}
+use Rattle.arithmetic.proofs.Rounding.{down-of}
+use Rattle.hydrostatics.specs.declared.Row.{Row}
+use Rattle.loading.specs.Demand.{Demand3}
+use Rattle.loading.specs.Load.{Tank, Load, weight, LoweredTank}
+use Rattle.loading.specs.Paper.{onLine, straightLine, slack, rectangleParts, rectangle, paperRules}
+use Rattle.loading.specs.Stability.{km, unroundedGM}
+use Rattle.loading.specs.Straight.{Usable}
+use Rattle.loading.specs.Table.{Table, Place, placeOf, on, between}
+use Rattle.loading.proofs.Demand.{demand-3}
+use Rattle.loading.proofs.Laws.{SoundReading, SoundSurface, Sound}
+use Rattle.loading.proofs.Places.{Stands}
+
+span-some : (W : ℕ) (p : Place) → Stands W p → 0 < onLine p W .bottom
+span-some W (on r) h = omega arith
+span-some W (between r s) h = omega arith
+
+pub straightLine-sound : SoundReading straightLine
+straightLine-sound = record { rounds = λ W p h. down-of (onLine p W .top) (onLine p W .bottom) (span-some W p h) }
+
+-- an empty tank is not slack
+empty-none : (t : Tank) → t .contents ≡ 0 → rectangleParts t ≡ 0
+unfolding rectangleParts slack
+empty-none t e = rw e (simp chosen)
+
+if-mono : (c : Bool) (a b : ℕ) → a ≤ b → (if c then a else 0) ≤ (if c then b else 0)
+unfolding if_then_else_
+if-mono true a b h = h
+if-mono false a b h = le-refl 0
+
+lowered-less : (s t : Tank) → LoweredTank s t → rectangleParts s ≤ rectangleParts t
+unfolding rectangleParts slack
+lowered-less s t h =
+    rw (h .contents, h .capacity)
+    (if-mono _ _ _ (mul-le-mul (mul-le-mul (h .length) (pow-le-pow-left (h .breadth) 3)) (h .density)))
+
+pub rectangle-sound : SoundSurface rectangle
+rectangle-sound = record {
+  unit-some = omega arith;
+  empty = empty-none;
+  lowered = lowered-less;
+}
+
+pub paper-sound : Sound paperRules
+paper-sound = record { reading = straightLine-sound; surface = rectangle-sound }
+
+pub demand-3-of-the-paper : (t : Table) → Usable t → Demand3 paperRules t
+demand-3-of-the-paper = demand-3 paperRules paper-sound
+
+-- "each multiplied by 12,000,000,000·W·(Dk+1 − Dk), the last factor left out at a row's own weight"
+module _ (t : Table) (l : Load) where
+  pub factor-between : (r s : Row) → placeOf t (weight l) ≡ between r s → unroundedGM paperRules t l .bottom ≡ 12_000_000_000 * weight l * (s .displacement - r .displacement)
+  factor-between r s e = rw e (mul-comm (s .displacement - r .displacement) (12_000_000_000 * weight l))
+
+  pub factor-on : (r : Row) → placeOf t (weight l) ≡ on r → unroundedGM paperRules t l .bottom ≡ 12_000_000_000 * weight l
+  factor-on r e = rw e (omega arith)
+
+  pub km-on : (r : Row) → placeOf t (weight l) ≡ on r → km paperRules t l ≡ r .km
+  km-on r e = rw e (div-one (r .km))

@@ -1,0 +1,58 @@
+-- The free surface of a rectangular tank.
+--     surface-empty, surface-full      none where the tank is empty or full
+--     surface-slack                    rounded up where it is slack
+--     parts-most, surface-most         how large it can be
+-- Assumes nothing.
+use mathlib.Core.Path.{_≡_, refl, sym, ap, _∙_}
+use mathlib.Core.Bool.{Bool, true, false, _&&_}
+use Prim.Native.Nat.{ℕ, _*_, _^_, _≤_, _<_}
+use native.Mathlib.Nat.{mul-le-mul, pow-le-pow-left}
+use native.Mathlib.Omega.{arith}
+use borrow.Author.Tests.{lt-ltb, le-ltb}
+use Rattle.arithmetic.specs.Choice.{if_then_else_}
+use Rattle.arithmetic.specs.Rounding.{roundedUp}
+use Rattle.arithmetic.proofs.Choice.{chosen, if-either}
+use Rattle.arithmetic.proofs.Rounding.{up-of, up-zero, up-least}
+use Rattle.loading.specs.Aboard.{RoomOf}
+use Rattle.loading.specs.Load.{Tank}
+use Rattle.loading.specs.Paper.{slack, rectangleParts, rectangle}
+use Rattle.loading.specs.Rules.{surfaceOf}
+
+and-false : (b : Bool) → b && false ≡ false
+and-false true = refl
+and-false false = refl
+
+pub parts-most : {length breadth density : ℕ} → RoomOf length breadth density → length * breadth ^ 3 * density ≤ 640_000_000 * 12_000_000_000
+parts-most r = mul-le-mul (mul-le-mul (r .length-most) (pow-le-pow-left (r .breadth-most) 3)) (r .density-most)
+
+module _ (t : Tank) where
+  empty-parts : t .contents ≡ 0 → rectangleParts t ≡ 0
+  unfolding rectangleParts slack
+  empty-parts e = rw e (simp chosen)
+
+  full-parts : t .capacity ≤ t .contents → rectangleParts t ≡ 0
+  unfolding rectangleParts slack
+  full-parts h = simp (le-ltb (t .contents) (t .capacity) h, and-false, chosen)
+
+  slack-parts : 0 < t .contents → t .contents < t .capacity → rectangleParts t ≡ t .length * t .breadth ^ 3 * t .density
+  unfolding rectangleParts slack
+  slack-parts n h = simp (lt-ltb 0 (t .contents) n, lt-ltb (t .contents) (t .capacity) h, chosen)
+
+  none-of : rectangleParts t ≡ 0 → 0 ≡ surfaceOf rectangle t
+  none-of e = sym (ap (λ n. roundedUp n 12_000_000_000) e ∙ up-zero (up-of 0 12_000_000_000 (omega arith)))
+
+  pub surface-empty : t .contents ≡ 0 → 0 ≡ surfaceOf rectangle t
+  surface-empty e = none-of (empty-parts e)
+
+  pub surface-full : t .capacity ≤ t .contents → 0 ≡ surfaceOf rectangle t
+  surface-full h = none-of (full-parts h)
+
+  pub surface-slack : (t .contents ≡ 0 → ⊥) → t .contents < t .capacity → roundedUp (t .length * t .breadth ^ 3 * t .density) 12_000_000_000 ≡ surfaceOf rectangle t
+  surface-slack n h = ap (λ n. roundedUp n 12_000_000_000) (sym (slack-parts (omega arith) h))
+
+  parts-few : RoomOf (t .length) (t .breadth) (t .density) → rectangleParts t ≤ 640_000_000 * 12_000_000_000
+  unfolding rectangleParts
+  parts-few r = if-either (λ n. n ≤ 640_000_000 * 12_000_000_000) (slack t) (λ e. parts-most r) (λ e. omega arith)
+
+  pub surface-most : RoomOf (t .length) (t .breadth) (t .density) → surfaceOf rectangle t ≤ 640_000_000
+  surface-most r = up-least (up-of (rectangleParts t) 12_000_000_000 (omega arith)) 640_000_000 .1 (parts-few r)

@@ -1,0 +1,70 @@
+-- What a loading condition comes to: its numbers, or the first refusal in the paper's order.
+use Prim.Native.Nat.{ℕ, _+_, _%_, _/_}
+use mathlib.Core.Bool.{Bool, not, _&&_}
+use mathlib.Core.List.{List, [], _∷_}
+use lib.Dec.{leb, ltb, eqb}
+use lib.IntN.{ℤ, natAbs}
+use lib.ListN.{length}
+use Rattle.arithmetic.specs.Choice.{if_then_else_}
+use Rattle.hydrostatics.specs.Usable.{usableUpTo}
+use Rattle.ranges.specs.Fields.{item, tank}
+use Rattle.ranges.specs.Outcome.{Outcome, answered, refused, andThen}
+use Rattle.ranges.specs.Outside.{firstOutside}
+use Rattle.ranges.specs.Refusals.{outOfRange, wrongSize, tooLight, tooHeavy, contentsAboveCapacity, placeOfItems, placeOfTanks, itemTable, tankTable, rowTable}
+use Rattle.ranges.specs.Sizes.{wholeRecords, mostItems, mostTanks}
+use Rattle.loading.specs.Load.{Load, weight, verticalMoment, transverseMoment}
+use Rattle.loading.specs.Paper.{paperRules}
+use Rattle.loading.specs.Records.{loadOf}
+use Rattle.loading.specs.Stability.{draft, lcg, freeSurface, km, gm, heelOf, passes}
+use Rattle.loading.specs.Table.{Table, tableOf, lastRow}
+use Rattle.loading.specs.declared.Condition.{Condition}
+
+-- "tanks (one tank's eight numbers for 4, then 13)": from place `place` of the table on
+unfoldable pub tanksFrom : ℕ → List ℤ → Outcome ℕ
+tanksFrom place (contents ∷ capacity ∷ x ∷ y ∷ z ∷ length ∷ breadth ∷ density ∷ rest) =
+    let outside = firstOutside tank (contents ∷ capacity ∷ x ∷ y ∷ z ∷ length ∷ breadth ∷ density ∷ []) in
+    if ltb outside 8 then refused outOfRange (placeOfTanks + (place + outside))
+    else if ltb (natAbs capacity) (natAbs contents) then refused contentsAboveCapacity (placeOfTanks + place)
+    else tanksFrom (place + 8) rest
+tanksFrom place (contents ∷ capacity ∷ x ∷ y ∷ z ∷ length ∷ breadth ∷ []) = answered place
+tanksFrom place (contents ∷ capacity ∷ x ∷ y ∷ z ∷ length ∷ []) = answered place
+tanksFrom place (contents ∷ capacity ∷ x ∷ y ∷ z ∷ []) = answered place
+tanksFrom place (contents ∷ capacity ∷ x ∷ y ∷ []) = answered place
+tanksFrom place (contents ∷ capacity ∷ x ∷ []) = answered place
+tanksFrom place (contents ∷ capacity ∷ []) = answered place
+tanksFrom place (contents ∷ []) = answered place
+tanksFrom place [] = answered place
+
+-- the numbers of a condition
+unfoldable pub conditionAt : Table → Load → Condition
+conditionAt t l = record {
+  weight = weight l;
+  draft = draft t l;
+  km = km paperRules t l;
+  lcg = lcg l;
+  «vertical_moment» = verticalMoment l;
+  «free_surface» = freeSurface paperRules l;
+  gm = gm paperRules t l;
+  «transverse_moment» = transverseMoment l;
+  heel = heelOf (weight l) (gm paperRules t l) (transverseMoment l);
+  passes = passes (weight l) (gm paperRules t l) (transverseMoment l);
+}
+
+-- W against the table: 11 below the first row, 12 above the last
+unfoldable pub floats : Table → Load → Outcome Condition
+floats t l =
+    if ltb (weight l) (t .first .displacement) then refused tooLight 0
+    else if ltb (lastRow t .displacement) (weight l) then refused tooHeavy 0
+    else answered (conditionAt t l)
+
+-- "Condition: 7 (items, tanks, then rows: 2 to 19 whole rows), 10, items, tanks, 11, 12"
+unfoldable pub conditionOf : List ℤ → List ℤ → List ℕ → Outcome Condition
+conditionOf items tanks rows =
+    let count = length rows / 7 in
+    let badItem = firstOutside item items in
+    if not (wholeRecords (length item) mostItems (length items)) then refused wrongSize itemTable
+    else if not (wholeRecords (length tank) mostTanks (length tanks)) then refused wrongSize tankTable
+    else if not (wholeRecords 7 19 (length rows) && leb 2 count) then refused wrongSize rowTable
+    else andThen (usableUpTo rows count) (λ good.
+    if ltb badItem (length items) then refused outOfRange (placeOfItems + badItem)
+    else andThen (tanksFrom 0 tanks) (λ last. floats (tableOf rows count) (loadOf items tanks)))

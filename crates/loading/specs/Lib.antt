@@ -1,0 +1,16 @@
+-- The loading condition: what is aboard, where it floats, how stable it is, and demand 3.
+pub mod Fraction
+pub mod Total
+pub mod Load
+pub mod Records
+pub mod Table
+pub mod Straight
+pub mod Rules
+pub mod Stability
+pub mod Paper
+pub mod Demand
+pub mod Condition
+pub mod Promise
+pub mod Aboard
+pub mod Afloat
+pub mod Steady

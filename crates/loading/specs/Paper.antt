@@ -1,0 +1,31 @@
+-- The paper's own rules for KM and free surface.
+use mathlib.Core.Bool.{Bool, _&&_}
+use Prim.Native.Nat.{ℕ, _-_, _*_, _/_, _^_}
+use lib.Dec.{ltb}
+use Rattle.arithmetic.specs.Choice.{if_then_else_}
+use Rattle.loading.specs.Fraction.{Fraction, _over_}
+use Rattle.loading.specs.Load.{Tank}
+use Rattle.loading.specs.Rules.{Reading, Surface, Rules}
+use Rattle.loading.specs.Table.{Place, on, between, line}
+
+-- "KM: on the straight line between the two rows, rounded down; at a row's own weight, that row's KM."
+abbrev pub onLine : Place → ℕ → Fraction
+onLine (on r) W = r .km over 1
+onLine (between r s) W = line (r .km) (s .km) (r .displacement) (s .displacement) W over (s .displacement - r .displacement)
+
+abbrev pub straightLine : Reading
+straightLine = record { given = λ p W. onLine p W .top / onLine p W .bottom; unrounded = onLine }
+
+-- "when 0 < contents < capacity"
+unfoldable pub slack : Tank → Bool
+slack t = ltb 0 (t .contents) && ltb (t .contents) (t .capacity)
+
+-- "length · breadth³ · liquid density / 12,000,000,000 kg·mm, rounded up; otherwise 0"
+unfoldable pub rectangleParts : Tank → ℕ
+rectangleParts t = if slack t then t .length * t .breadth ^ 3 * t .density else 0
+
+abbrev pub rectangle : Surface
+rectangle = record { parts = rectangleParts; unit = 12_000_000_000 }
+
+abbrev pub paperRules : Rules
+paperRules = record { reading = straightLine; surface = rectangle }
