@@ -6,3 +6,4 @@ pub mod Steps
 pub mod Reader
 pub mod Written
 pub mod Writer
+pub mod Putting

@@ -2,10 +2,12 @@
 mod reader;
 mod reading;
 mod tokens;
+mod writer;
 
 use ranges::Particulars;
 use ranges::Refusal;
 pub use reader::read_file;
+pub use writer::write_file;
 
 // What a file says beside its tables: the particulars, and how many items and tanks there are.
 pub struct Summary {

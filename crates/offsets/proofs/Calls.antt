@@ -1,0 +1,158 @@
+-- The round trip for the two calls, over what they promise: whatever keeps the promises gives back what it was given.
+--     Rooms                     tables that the reader can fill from any file
+--     ReadBack                  a reader's answer and tables that say these particulars and tables
+--     write-then-read           what was written is read back
+--     WrittenAgain              a writer's answer whose text is read back so
+--     read-then-write           what was read can be written, and is read back
+-- Assumes nothing.
+use mathlib.Core.Path.{_≡_, refl, ap, _∙_}
+use mathlib.Core.List.{List, [], _∷_, _++_, map}
+use Prim.Native.Nat.{ℕ, _*_, _/_, _≤_}
+use native.Mathlib.Omega.{arith}
+use lib.IntN.{ℤ, pos, natAbs}
+use lib.ListN.{length, take, drop, length-map}
+use lib.Seq.{take-at}
+use Rattle.ranges.specs.Fields.{item, tank}
+use Rattle.ranges.specs.Outcome.{Outcome, answered, refused}
+use Rattle.ranges.specs.Sizes.{longestFile, pointsOf, roomForHalfBreadths, roomForItems, roomForTanks}
+use Rattle.ranges.specs.declared.Particulars.{Particulars}
+use Rattle.offsets.specs.File.{Contents}
+use Rattle.offsets.specs.Reader.{Reads, readerOf, particularsOf, summarised, filled, summaryOf}
+use Rattle.offsets.specs.Tokens.{tokens}
+use Rattle.offsets.specs.Written.{textOf}
+use Rattle.offsets.specs.Writer.{Writes, writerOf, lengthOf, roomAfter}
+use Rattle.offsets.specs.declared.Read.{Read}
+use Rattle.offsets.specs.declared.Read.the-variants.{Sheet}
+use Rattle.offsets.specs.declared.Summary.{Summary}
+use Rattle.offsets.specs.declared.Written.{Written}
+use Rattle.offsets.specs.declared.Written.the-variants.{Wrote}
+use Rattle.offsets.proofs.RoundTrip.{contentsOf, written-is-read, reader-opens, read-is-written}
+use Rattle.offsets.proofs.Sound.{Sound, recordsIn, length-of-half-breadths, length-of-items, length-of-tanks, file-sound}
+use Rattle.offsets.proofs.Tried.{went-on}
+use Rattle.offsets.proofs.Unique.{read-paper-injective, written-paper-injective, no-refusal}
+
+pub record Rooms (h : List ℕ) (i t : List ℤ) : Type 0 where
+  pub half-breadth-room : roomForHalfBreadths ≤ length h
+  pub item-room : roomForItems ≤ length i
+  pub tank-room : roomForTanks ≤ length t
+
+pub record ReadBack (summary : Summary) (h : List ℕ) (i t : List ℤ) (h₀ h' : List ℕ) (i₀ i' t₀ t' : List ℤ) (answer : Read) : Type 0 where
+  pub answer-is : answer ≡ Sheet summary
+  pub half-breadths-are : h' ≡ h ++ drop (length h) h₀
+  pub items-are : i' ≡ i ++ drop (length i) i₀
+  pub tanks-are : t' ≡ t ++ drop (length t) t₀
+
+-- a reader that read contents answers and leaves them
+reads-contents : {text h₀ h' : List ℕ} {i₀ i' t₀ t' : List ℤ} {answer : Read} (c : Contents)
+    → readerOf text (length h₀) (length i₀) (length t₀) ≡ answered c → Reads text h₀ h' i₀ i' t₀ t' answer
+    → ReadBack (summaryOf c) (map natAbs (c .halfBreadths)) (c .items) (c .tanks) h₀ h' i₀ i' t₀ t' answer
+unfolding summarised filled
+reads-contents {answer = answer} c e r = record {
+  answer-is = read-paper-injective answer (Sheet (summaryOf c)) (r .answer-is ∙ rw e);
+  half-breadths-are = r .half-breadths-left ∙ rw e;
+  items-are = r .items-left ∙ rw e;
+  tanks-are = r .tanks-left ∙ rw e;
+}
+
+-- ---- from the writer to the reader
+-- the text that a writer which answered a length left in front of its room
+pub record Text (p : Particulars) (h : List ℕ) (i t : List ℤ) (room roomLeft : List ℕ) (count : ℕ) : Type 0 where
+  pub text : List ℕ
+  pub written : writerOf p h i t (length room) ≡ answered text
+  pub stands : take count roomLeft ≡ text
+
+module _ {p : Particulars} {h : List ℕ} {i t : List ℤ} {room roomLeft : List ℕ} {count : ℕ} where
+  text-of : (o : Outcome (List ℕ)) → writerOf p h i t (length room) ≡ o → answered count ≡ lengthOf o → roomLeft ≡ roomAfter o room → Text p h i t room roomLeft count
+  unfolding lengthOf roomAfter
+  text-of (answered text) e n l =
+      let long : length text ≡ count = cc n in
+      record { text = text; written = e; stands = rw l (take-at text (drop (length text) room) count long) }
+  text-of (refused why place) e n l = no-refusal n
+
+  text-of-writes : Writes p h i t room roomLeft (Wrote count) → Text p h i t room roomLeft count
+  text-of-writes w = text-of (writerOf p h i t (length room)) refl (w .answer-is) (w .left)
+
+sizes-again : (h : List ℕ) → map natAbs (map pos h) ≡ h
+sizes-again [] = refl
+sizes-again (y ∷ h) = ap (λ l. y ∷ l) (sizes-again h)
+
+pub write-then-read : {p : Particulars} {h : List ℕ} {i t : List ℤ} {room roomLeft : List ℕ} {count : ℕ} {h₀ h' : List ℕ} {i₀ i' t₀ t' : List ℤ} {answer : Read}
+    → Writes p h i t room roomLeft (Wrote count) → Rooms h₀ i₀ t₀ → Reads (take count roomLeft) h₀ h' i₀ i' t₀ t' answer
+    → ReadBack (record { particulars = p; items = length i / 4; tanks = length t / 8 }) h i t h₀ h' i₀ i' t₀ t' answer
+write-then-read {p} {h} {i} {t} {room} {h₀ = h₀} {i₀ = i₀} {t₀ = t₀} w rooms r =
+    let x = text-of-writes w in
+    let back = written-is-read p h i t (length room) (x .written) in
+    let opened = reader-opens (x .text) (length h₀) (length i₀) (length t₀) (back .0) (rooms .half-breadth-room) (rooms .item-room) (rooms .tank-room) in
+    rw (sizes-again h) at (reads-contents (contentsOf p h i t) (opened ∙ back .1) (rw (x .stands) at r))
+
+-- ---- from the reader to the writer
+-- the fronts of the tables that a reader with this summary filled
+abbrev pub halfBreadthsRead : Summary → List ℕ → List ℕ
+halfBreadthsRead summary = take (pointsOf (summary .particulars .n) (summary .particulars .m))
+
+abbrev pub itemsRead : Summary → List ℤ → List ℤ
+itemsRead summary = take (length item * summary .items)
+
+abbrev pub tanksRead : Summary → List ℤ → List ℤ
+tanksRead summary = take (length tank * summary .tanks)
+
+pub record WrittenAgain (summary : Summary) (h : List ℕ) (i t : List ℤ) (roomLeft : List ℕ) (answer : Written) : Type 0 where
+  pub count : ℕ
+  pub answer-is : answer ≡ Wrote count
+  pub read-back : {h₀ h' : List ℕ} {i₀ i' t₀ t' : List ℤ} {answer : Read} → Rooms h₀ i₀ t₀ → Reads (take count roomLeft) h₀ h' i₀ i' t₀ t' answer → ReadBack summary h i t h₀ h' i₀ i' t₀ t' answer
+
+-- what was read, written from tables that hold just that
+rewritten : (c : Contents) → Sound c → {room roomLeft : List ℕ} {answer : Written}
+    → Writes (particularsOf (c .hull)) (map natAbs (c .halfBreadths)) (c .items) (c .tanks) room roomLeft answer → longestFile ≤ length room
+    → WrittenAgain (summaryOf c) (map natAbs (c .halfBreadths)) (c .items) (c .tanks) roomLeft answer
+unfolding lengthOf
+rewritten c s {room} {answer = answer} w l =
+    let text = textOf (particularsOf (c .hull)) (map natAbs (c .halfBreadths)) (c .items) (c .tanks) in
+    let e : answer ≡ Wrote (length text) = written-paper-injective answer (Wrote (length text)) (w .answer-is ∙ ap lengthOf (read-is-written c s (length room) l)) in
+    record { count = length text; answer-is = e; read-back = λ rooms r. write-then-read (rw e at w) rooms r }
+
+-- contents that a reader read to answer a summary
+pub record Read-contents (text : List ℕ) (h i t : ℕ) (summary : Summary) : Type 0 where
+  pub contents : Contents
+  pub read : readerOf text h i t ≡ answered contents
+  pub summary-is : summaryOf contents ≡ summary
+
+module _ {text : List ℕ} {h i t : ℕ} {summary : Summary} where
+  contents-read : (o : Outcome Contents) → readerOf text h i t ≡ o → answered summary ≡ summarised o → Read-contents text h i t summary
+  unfolding summarised
+  contents-read (answered c) e n = record { contents = c; read = e; summary-is = cc n }
+  contents-read (refused why place) e n = no-refusal n
+
+reader-sound : (text : List ℕ) (h i t : ℕ) {c : Contents} → readerOf text h i t ≡ answered c → Sound c
+unfolding readerOf
+reader-sound text h i t e =
+    let a = went-on _ _ _ e in
+    let b = went-on _ _ _ (a .1) in
+    let d = went-on _ _ _ (b .1) in
+    let f = went-on _ _ _ (d .1) in
+    file-sound (length text) (tokens text) (f .1)
+
+-- the fronts of the tables are what was read
+front-of : {A : Type 0} (read was after : List A) (n : ℕ) → length read ≡ n → after ≡ read ++ drop (length read) was → take n after ≡ read
+front-of read was after n e l = rw l (take-at read (drop (length read) was) n e)
+
+module _ (c : Contents) (s : Sound c) {h₀ h' : List ℕ} {i₀ i' t₀ t' : List ℤ} {read : Read}
+    (b : ReadBack (summaryOf c) (map natAbs (c .halfBreadths)) (c .items) (c .tanks) h₀ h' i₀ i' t₀ t' read) {room roomLeft : List ℕ} {answer : Written} where
+  written-from : longestFile ≤ length room
+      → Writes (particularsOf (c .hull)) (halfBreadthsRead (summaryOf c) h') (itemsRead (summaryOf c) i') (tanksRead (summaryOf c) t') room roomLeft answer
+      → WrittenAgain (summaryOf c) (halfBreadthsRead (summaryOf c) h') (itemsRead (summaryOf c) i') (tanksRead (summaryOf c) t') roomLeft answer
+  written-from l w =
+      let half : halfBreadthsRead (summaryOf c) h' ≡ map natAbs (c .halfBreadths) = front-of (map natAbs (c .halfBreadths)) h₀ h' _ (length-map (c .halfBreadths) natAbs ∙ length-of-half-breadths c s) (b .half-breadths-are) in
+      let items : itemsRead (summaryOf c) i' ≡ c .items = front-of (c .items) i₀ i' (4 * recordsIn item (c .items)) (omega (arith, length-of-items c s)) (b .items-are) in
+      let tanks : tanksRead (summaryOf c) t' ≡ c .tanks = front-of (c .tanks) t₀ t' (8 * recordsIn tank (c .tanks)) (omega (arith, length-of-tanks c s)) (b .tanks-are) in
+      rw (half, items, tanks) (rewritten c s (rw (half, items, tanks) at w) l)
+
+pub read-then-write : {text h₀ h' : List ℕ} {i₀ i' t₀ t' : List ℤ} {summary : Summary} {room roomLeft : List ℕ} {answer : Written}
+    → Reads text h₀ h' i₀ i' t₀ t' (Sheet summary) → longestFile ≤ length room
+    → Writes (summary .particulars) (halfBreadthsRead summary h') (itemsRead summary i') (tanksRead summary t') room roomLeft answer
+    → WrittenAgain summary (halfBreadthsRead summary h') (itemsRead summary i') (tanksRead summary t') roomLeft answer
+read-then-write {text} {h₀} {h'} {i₀} {i'} {t₀} {t'} {summary} r l w =
+    let x = contents-read (readerOf text (length h₀) (length i₀) (length t₀)) refl (r .answer-is) in
+    let c = x .contents in
+    let s = reader-sound text (length h₀) (length i₀) (length t₀) (x .read) in
+    rw (← x .summary-is) (written-from c s (reads-contents c (x .read) r) l (rw (← x .summary-is) at w))
