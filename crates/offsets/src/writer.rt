@@ -14,9 +14,6 @@ use crate::Written;
 use ranges::Particulars;
 use ranges::Refusal;
 
-// How many particulars a hull has.
-const PARTICULAR_COUNT: usize = 5;
-
 // Writes a file's text into the lent room and answers its length, or refuses and leaves the room as it was.
 pub fn write_file(
     p: Particulars,
@@ -28,7 +25,7 @@ pub fn write_file(
     ensures { λ r. ⌜ Writes p (now («half_breadths» .entry)) (now (items .entry)) (now (tanks .entry)) (now (room .entry)) (now (room .exit)) r ⌝ }
 {
     let particular = ranges::particular_outside(p);
-    if particular < PARTICULAR_COUNT {
+    if particular < ranges::PARTICULAR_COUNT {
         return refused(Refusal::OUT_OF_RANGE, particular);
     }
     if half_breadths.len() != (p.n + 1) * (p.m + 1) {
@@ -126,7 +123,7 @@ fn put_hull(p: Particulars, text: &mut [u8], at: usize) -> usize
     let d = arithmetic::signed(p.d);
     let density = arithmetic::signed(p.density);
     let hull = [n, m, s, d, density];
-    let next = put_count(PARTICULAR_COUNT, text, at);
+    let next = put_count(ranges::PARTICULAR_COUNT, text, at);
     put_line(&hull, text, next)
 }
 
