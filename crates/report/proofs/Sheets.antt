@@ -1,0 +1,238 @@
+-- The sheet, from the outcomes of reader, rows and condition.
+--     load-refused, load-laden      the R lines and the E line, or the C line
+--     hull-refused                  the E line of the rows
+--     Made, made-rows               what the rows left: the whole rows, in front of the table
+--     hull-made                     so that the lines follow
+--     file-refused                  the E line of the reader
+--     Whole-read, sheet-read        what the reader left: the file's numbers, in front of the tables
+--     file-read                     so that the lines follow
+--     report-short, report-fits     the lines in the lent room
+--     lines-within, never-short     so many bytes of the room hold them; room for the longest sheet is never too short
+-- Assumes nothing.
+use Prim.Native.Nat.{ℕ, _+_, _*_, _-_, _/_, _≤_, _<_}
+use mathlib.Core.Path.{_≡_, refl, sym, ap, _∙_}
+use mathlib.Core.List.{List, [], _∷_, _++_, map}
+use native.Mathlib.Nat.{mul-le-mul}
+use native.Mathlib.Omega.{arith}
+use borrow.Author.Tests.{lt-ltb, le-ltb, ltb-false}
+use lib.Dec.{ltb}
+use lib.IntN.{ℤ, pos, natAbs}
+use lib.ListN.{length, take, drop, getD, length-map, length-append}
+use lib.Seq.{take-at, take-length, length-take-le}
+use Rattle.arithmetic.proofs.Choice.{chosen}
+use Rattle.arithmetic.proofs.Room.{laid-fits, laid-short}
+use Rattle.hydrostatics.specs.Promise as Rows
+use Rattle.hydrostatics.specs.Promise.{MakesRows, countOf, tableAfter}
+use Rattle.hydrostatics.specs.Rows.{rowsOf}
+use Rattle.hydrostatics.specs.declared.Rows.{Rows as RowsAnswer}
+use Rattle.hydrostatics.specs.declared.Rows.the-variants as RowsAnswer
+use Rattle.hydrostatics.proofs.Passed.{counted, never, else-answered}
+use Rattle.hydrostatics.proofs.Usable.{Served, served}
+use Rattle.loading.specs.Condition.{conditionOf}
+use Rattle.loading.specs.Promise as Loading
+use Rattle.loading.specs.declared.Answer.{Answer}
+use Rattle.loading.specs.declared.Answer.the-variants as Answer
+use Rattle.loading.specs.declared.Condition.{Condition}
+use Rattle.offsets.specs.File.{Contents, points}
+use Rattle.offsets.specs.Reader as Reader
+use Rattle.offsets.specs.Reader.{Reads, readerOf, particularsOf, summaryOf, summarised, filled}
+use Rattle.offsets.specs.declared.Read.{Read as ReadAnswer}
+use Rattle.offsets.specs.declared.Read.the-variants as ReadAnswer
+use Rattle.offsets.specs.declared.Summary.{Summary}
+use Rattle.ranges.specs.Outcome.{Outcome, answered, refused}
+use Rattle.ranges.specs.Refusals.{roomTooShort}
+use Rattle.ranges.specs.Sizes.{roomForHalfBreadths, roomForItems, roomForTanks}
+use Rattle.ranges.specs.declared.Particulars.{Particulars}
+use Rattle.ranges.specs.declared.Refusal.{Refusal}
+use Rattle.report.specs.Lines.{conditionLine, refusalLine}
+use Rattle.report.specs.Promise.{reportOf, Reports}
+use Rattle.report.specs.Putting.{Ready, Puts, WholeRows, longestSheet, mostConditionLine, mostRefusalLine, mostRowLine}
+use Rattle.report.specs.Sheet.{rowLines, conditionSaid, rowsSaid, roomForRows, fileSaid, sheetOf}
+use Rattle.offsets.proofs.Within.{answer-same}
+use Rattle.report.specs.declared.Report.{Report}
+use Rattle.report.specs.declared.Report.the-variants.{Lines, Refused}
+use Rattle.report.proofs.Contents.{Whole, whole-read}
+use Rattle.report.proofs.Pieces.{puts-both, puts-le}
+use Rattle.report.proofs.Unique.{paper-injective}
+
+-- ---- the condition
+module _ (rows : List ℕ) (count : ℕ) (items tanks : List ℤ) {was mid end : List ℕ} {next last : ℕ}
+    (ready : Ready longestSheet was 0)
+    (whole : WholeRows rows count)
+    (lines : Puts (mostRowLine * count) (rowLines rows 0 count) was 0 mid next)
+    {answer : Answer}
+    (is : Loading.paper answer ≡ conditionOf items tanks rows) where
+  pub load-refused : {f : Refusal} → answer ≡ Answer.Refused f → Puts mostRefusalLine (refusalLine (f .number) (f .place)) mid next end last → Puts longestSheet (rowLines rows 0 count ++ conditionSaid (conditionOf items tanks rows)) was 0 end last
+  unfolding conditionSaid
+  load-refused {f} e line =
+      rw (sym is ∙ ap Loading.paper e)
+      (puts-le (puts-both lines (omega (arith, ready .room, whole .most)) line) longestSheet (omega (arith, whole .most)))
+
+  pub load-laden : {c : Condition} → answer ≡ Answer.Laden c → Puts mostConditionLine (conditionLine c) mid next end last → Puts longestSheet (rowLines rows 0 count ++ conditionSaid (conditionOf items tanks rows)) was 0 end last
+  unfolding conditionSaid
+  load-laden {c} e line =
+      rw (sym is ∙ ap Loading.paper e)
+      (puts-le (puts-both lines (omega (arith, ready .room, whole .most)) line) longestSheet (omega (arith, whole .most)))
+
+-- ---- the rows
+-- a refusal of the count is one of the rows
+refused-rows : (o : Outcome (List ℕ)) {number place : ℕ} → refused number place ≡ countOf o → o ≡ refused number place
+unfolding countOf
+refused-rows (answered numbers) e = never e
+refused-rows (refused number place) e = cc
+
+-- so many whole rows stand in front of a table
+pub record Made (table : List ℕ) (p : Particulars) (after : List ℕ) (count : ℕ) : Type 0 where
+  pub is : rowsOf table p roomForRows ≡ answered (take (7 * count) after)
+  pub whole : WholeRows (take (7 * count) after) count
+
+module _ {table : List ℕ} {p : Particulars} {rows after : List ℕ} {answer : RowsAnswer} (long : length rows ≡ roomForRows) (makes : MakesRows table p rows after answer) where
+  pub hull-refused : (items tanks : List ℤ) {f : Refusal} {was end : List ℕ} {last : ℕ} → answer ≡ RowsAnswer.Refused f → Puts mostRefusalLine (refusalLine (f .number) (f .place)) was 0 end last → Puts longestSheet (rowsSaid items tanks (rowsOf table p roomForRows)) was 0 end last
+  unfolding rowsSaid
+  hull-refused items tanks e line =
+      let so = refused-rows (rowsOf table p (length rows)) (sym (ap Rows.paper e) ∙ makes .answer-is) in
+      rw (ap (rowsOf table p) (sym long) ∙ so) (puts-le line longestSheet (omega arith))
+
+  pub made-rows : {count : ℕ} → answer ≡ RowsAnswer.Made count → Made table p after count
+  unfolding tableAfter
+  made-rows {count} e =
+      counted (rowsOf table p (length rows)) (sym (ap Rows.paper e) ∙ makes .answer-is) (λ numbers so count-is.
+      let good : Served numbers (p .m - 1) = served table p (length rows) so in
+      let same : count ≡ p .m - 1 = count-is ∙ ap (λ n. n / 7) (good .long) ∙ omega arith in
+      let size : length numbers ≡ 7 * count = good .long ∙ ap (λ n. 7 * n) (sym same) in
+      let front : take (7 * count) after ≡ numbers =
+      ap (take (7 * count)) (makes .left ∙ ap (λ o. tableAfter o rows) so) ∙ take-at numbers (drop (length numbers) rows) (7 * count) size in
+      record {
+        is = ap (rowsOf table p) (sym long) ∙ so ∙ ap answered (sym front);
+        whole = record { whole = ap length front ∙ size; most = omega (arith, good .most, same) };
+      })
+
+  pub hull-made : (items tanks : List ℤ) {count : ℕ} {was end : List ℕ} {last : ℕ} → Made table p after count → Puts longestSheet (rowLines (take (7 * count) after) 0 count ++ conditionSaid (conditionOf items tanks (take (7 * count) after))) was 0 end last → Puts longestSheet (rowsSaid items tanks (rowsOf table p roomForRows)) was 0 end last
+  unfolding rowsSaid
+  hull-made items tanks {count} made lines =
+      let counts : length (take (7 * count) after) / 7 ≡ count = ap (λ n. n / 7) (made .whole .whole) ∙ omega arith in
+      rw (made .is, counts) lines
+
+-- ---- the file
+refused-file : (o : Outcome Contents) {number place : ℕ} → refused number place ≡ summarised o → o ≡ refused number place
+unfolding summarised
+refused-file (answered c) e = never e
+refused-file (refused number place) e = cc
+
+-- an answer with a summary has contents
+summed : {X : Type 0} (o : Outcome Contents) {s : Summary} → answered s ≡ summarised o → ((c : Contents) → o ≡ answered c → s ≡ summaryOf c → X) → X
+unfolding summarised
+summed (answered c) e on = on c refl cc
+summed (refused number place) e on = never (sym e)
+
+-- the numbers of a whole file stand in front of three tables
+pub record Whole-read (text h : List ℕ) (i t : List ℤ) (s : Summary) : Type 0 where
+  pub contents : Contents
+  pub is : readerOf text roomForHalfBreadths roomForItems roomForTanks ≡ answered contents
+  pub summary-is : s ≡ summaryOf contents
+  pub n-most : s .particulars .n ≤ 40
+  pub m-most : s .particulars .m ≤ 20
+  pub grid-most : (s .particulars .n + 1) * (s .particulars .m + 1) ≤ 861
+  pub items-most : s .items ≤ 32
+  pub tanks-most : s .tanks ≤ 16
+  pub grid-front : take ((s .particulars .n + 1) * (s .particulars .m + 1)) h ≡ map natAbs (contents .halfBreadths)
+  pub items-front : take (4 * s .items) i ≡ contents .items
+  pub tanks-front : take (8 * s .tanks) t ≡ contents .tanks
+
+module _ {text h₀ h : List ℕ} {i₀ i t₀ t : List ℤ} {answer : ReadAnswer}
+    (halves : length h₀ ≡ 861) (items : length i₀ ≡ 128) (tanks : length t₀ ≡ 128)
+    (reads : Reads text h₀ h i₀ i t₀ t answer) where
+  read-is : readerOf text (length h₀) (length i₀) (length t₀) ≡ readerOf text roomForHalfBreadths roomForItems roomForTanks
+  read-is = rw (halves, items, tanks)
+
+  pub file-refused : {f : Refusal} {was end : List ℕ} {last : ℕ} → answer ≡ ReadAnswer.Refused f → Puts mostRefusalLine (refusalLine (f .number) (f .place)) was 0 end last → Puts longestSheet (sheetOf text) was 0 end last
+  unfolding sheetOf fileSaid
+  file-refused e line =
+      let so = refused-file (readerOf text (length h₀) (length i₀) (length t₀)) (sym (ap Reader.paper e) ∙ reads .answer-is) in
+      rw (sym read-is ∙ so) (puts-le line longestSheet (omega arith))
+
+  pub sheet-read : {s : Summary} → answer ≡ ReadAnswer.Sheet s → Whole-read text h i t s
+  unfolding filled
+  sheet-read {s} e =
+      summed (readerOf text (length h₀) (length i₀) (length t₀)) (sym (ap Reader.paper e) ∙ reads .answer-is) (λ c so sum.
+      let whole : Whole c = whole-read text (length h₀) (length i₀) (length t₀) c so in
+      let grid-long : length (map natAbs (c .halfBreadths)) ≡ points (c .hull) =
+      length-map (c .halfBreadths) natAbs ∙ omega (arith, whole .grid .long, whole .grid .at-least, whole .grid .at-most) in
+      let items-long : length (c .items) ≡ 4 * (length (c .items) / 4) = omega (arith, whole .items .long) in
+      let tanks-long : length (c .tanks) ≡ 8 * (length (c .tanks) / 8) = omega (arith, whole .tanks .long) in
+      let h-is : h ≡ map natAbs (c .halfBreadths) ++ drop (length (map natAbs (c .halfBreadths))) h₀ = reads .half-breadths-left ∙ ap (λ o. filled (λ c. map natAbs (c .halfBreadths)) o h₀) so in
+      let i-is : i ≡ c .items ++ drop (length (c .items)) i₀ = reads .items-left ∙ ap (λ o. filled (λ c. c .items) o i₀) so in
+      let t-is : t ≡ c .tanks ++ drop (length (c .tanks)) t₀ = reads .tanks-left ∙ ap (λ o. filled (λ c. c .tanks) o t₀) so in
+      let n-most : natAbs (getD (c .hull) 0 (pos 0)) + 1 ≤ 41 = omega (arith, whole .n-most) in
+      let m-most : natAbs (getD (c .hull) 1 (pos 0)) + 1 ≤ 21 = omega (arith, whole .m-most) in
+      rw sum
+      (record {
+        contents = c;
+        is = sym read-is ∙ so;
+        summary-is = refl;
+        n-most = whole .n-most;
+        m-most = whole .m-most;
+        grid-most = mul-le-mul n-most m-most;
+        items-most = omega (arith, whole .items .long, whole .items .at-most);
+        tanks-most = omega (arith, whole .tanks .long, whole .tanks .at-most);
+        grid-front = ap (take (points (c .hull))) h-is ∙ take-at (map natAbs (c .halfBreadths)) _ (points (c .hull)) grid-long;
+        items-front = ap (take (4 * (length (c .items) / 4))) i-is ∙ take-at (c .items) _ (4 * (length (c .items) / 4)) items-long;
+        tanks-front = ap (take (8 * (length (c .tanks) / 8))) t-is ∙ take-at (c .tanks) _ (8 * (length (c .tanks) / 8)) tanks-long;
+      }))
+
+  pub file-read :
+      {s : Summary} {was end : List ℕ} {last : ℕ}
+      → Whole-read text h i t s
+      → Puts longestSheet (rowsSaid (take (4 * s .items) i) (take (8 * s .tanks) t) (rowsOf (take ((s .particulars .n + 1) * (s .particulars .m + 1)) h) (s .particulars) roomForRows)) was 0 end last
+      → Puts longestSheet (sheetOf text) was 0 end last
+  unfolding sheetOf fileSaid
+  file-read {s} w lines = rw (w .is) (rw (w .items-front, w .tanks-front, w .grid-front, w .summary-is) at lines)
+
+-- ---- the lent room
+module _ (text : List ℕ) {lines after : List ℕ} {n : ℕ} (put : Puts longestSheet (sheetOf text) lines 0 after n) where
+  length-is : n ≡ length (sheetOf text)
+  length-is = put .next-is ∙ omega arith
+
+  pub report-short : (room : List ℕ) → length room < n → Reports text room room (Refused (record { number = 14; place = n }))
+  unfolding reportOf
+  report-short room h =
+      let short : length room < length (sheetOf text) = omega (arith, length-is) in
+      record {
+        answer-is = rw length-is (simp (lt-ltb (length room) (length (sheetOf text)) short, chosen));
+        left = sym (laid-short (sheetOf text) room short);
+      }
+
+  front : take n after ≡ sheetOf text
+  front = ap (take n) (put .left) ∙ take-at (sheetOf text) (drop n lines) n (sym length-is)
+
+  -- the lines were copied into the room
+  pub report-fits :
+      (room left : List ℕ)
+      → n ≤ length room
+      → left ≡ take (length (take n after)) (take n after) ++ drop (length (take n after)) room
+      → Reports text room left (Lines n)
+  unfolding reportOf
+  report-fits room left h e =
+      let fits : length (sheetOf text) ≤ length room = omega (arith, length-is) in
+      record {
+        answer-is = rw length-is (simp (le-ltb (length room) (length (sheetOf text)) fits, chosen));
+        left =
+            e ∙ ap (λ l. take (length l) l ++ drop (length l) room) front
+            ∙ ap (λ l. l ++ drop (length (sheetOf text)) room) (take-length (sheetOf text))
+            ∙ sym (laid-fits (sheetOf text) room fits);
+      }
+
+-- the lines lie in the room that they were put into
+pub lines-within : {text room left : List ℕ} {n : ℕ} → Reports text room left (Lines n) → n ≤ length room
+unfolding reportOf
+lines-within {text} {room} reports =
+    let fits = else-answered (ltb (length room) (length (sheetOf text))) roomTooShort (length (sheetOf text)) _ (sym (reports .answer-is)) in
+    let same : length (sheetOf text) ≡ _ = answer-same (fits .1) in
+    omega (arith, ltb-false (length room) (length (sheetOf text)) (fits .0), same)
+
+-- and room for the longest sheet is never too short
+pub never-short : {text room left : List ℕ} {answer : Report} → Reports text room left answer → length (sheetOf text) ≤ length room → answer ≡ Lines (length (sheetOf text))
+unfolding reportOf
+never-short {text} {room} {answer = answer} reports h =
+    paper-injective answer (Lines (length (sheetOf text)))
+    (reports .answer-is ∙ simp (le-ltb (length room) (length (sheetOf text)) h, chosen))

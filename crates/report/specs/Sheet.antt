@@ -1,0 +1,40 @@
+-- The whole sheet of a file's text. "A refusal prints "E", number, place, and ends the run; R lines come first only where it is the condition that refuses."
+use Prim.Native.Nat.{ℕ, zero, suc, _+_, _/_}
+use mathlib.Core.List.{List, [], _∷_, _++_, map}
+use lib.IntN.{ℤ, natAbs}
+use lib.ListN.{length}
+use Rattle.hydrostatics.specs.Rows.{rowsOf}
+use Rattle.hydrostatics.specs.Usable.{rowIn}
+use Rattle.loading.specs.Condition.{conditionOf}
+use Rattle.loading.specs.declared.Condition.{Condition}
+use Rattle.offsets.specs.File.{Contents}
+use Rattle.offsets.specs.Reader.{readerOf, particularsOf}
+use Rattle.ranges.specs.Outcome.{Outcome, answered, refused}
+use Rattle.ranges.specs.Sizes.{roomForHalfBreadths, roomForItems, roomForTanks}
+use Rattle.report.specs.Lines.{rowLine, conditionLine, refusalLine}
+
+-- the lines of so many rows from row `from` on
+unfoldable pub rowLines : List ℕ → ℕ → ℕ → List ℕ
+rowLines rows from zero = []
+rowLines rows from (suc count) = rowLine (rowIn rows from) ++ rowLines rows (from + 1) count
+
+-- the C line, or the E line
+unfoldable pub conditionSaid : Outcome Condition → List ℕ
+conditionSaid (answered c) = conditionLine c
+conditionSaid (refused number place) = refusalLine number place
+
+-- the R lines and what follows them, or the E line
+unfoldable pub rowsSaid : List ℤ → List ℤ → Outcome (List ℕ) → List ℕ
+rowsSaid items tanks (answered rows) = rowLines rows 0 (length rows / 7) ++ conditionSaid (conditionOf items tanks rows)
+rowsSaid items tanks (refused number place) = refusalLine number place
+
+-- room for the rows of the largest hull: 19 of them
+abbrev pub roomForRows : ℕ
+roomForRows = 133
+
+unfoldable pub fileSaid : Outcome Contents → List ℕ
+fileSaid (answered c) = rowsSaid (c .items) (c .tanks) (rowsOf (map natAbs (c .halfBreadths)) (particularsOf (c .hull)) roomForRows)
+fileSaid (refused number place) = refusalLine number place
+
+unfoldable pub sheetOf : List ℕ → List ℕ
+sheetOf text = fileSaid (readerOf text roomForHalfBreadths roomForItems roomForTanks)

@@ -1,0 +1,36 @@
+// From a file's bytes to the sheet's bytes, as one call.
+mod lines;
+mod sheet;
+
+ghost use Prim.Native.Nat.{_≤_};
+ghost use lib.ListN.{length};
+ghost use Rattle.report.specs.Promise.{Reports};
+ghost use Rattle.report.specs.Putting.{longestSheet};
+ghost use Rattle.report.specs.Sheet.{sheetOf};
+use ranges::Refusal;
+
+// What making a sheet answers: how many bytes its lines take, or that the room is too short for them.
+pub enum Report {
+    Lines(usize),
+    Refused(Refusal),
+}
+
+// No sheet is longer: room of this size is never too short.
+pub const LONGEST_SHEET: usize = 3_173;
+
+// Makes the sheet of a file's text, and puts its lines into the lent room, where they fit.
+pub fn make_report(text: &[u8], room: &mut [u8]) -> Report
+    ensures { λ r. ⌜ Reports (now (text .entry)) (now (room .entry)) (now (room .exit)) r ⌝ }
+    ensures { λ _. ⌜ length (sheetOf (now (text .entry))) ≤ longestSheet ⌝ }
+{
+    let mut lines = [0u8; LONGEST_SHEET];
+    let length = sheet::put_sheet(text, &mut lines);
+    if room.len() < length {
+        return Report::Refused(Refusal {
+            number: Refusal::ROOM_TOO_SHORT,
+            place: length,
+        });
+    }
+    bytes::copy(&lines[..length], room);
+    Report::Lines(length)
+}
