@@ -1,0 +1,67 @@
+-- The parts of the rooms that were filled. Assumes nothing.
+use mathlib.Core.Path.{sym}
+use lib.Seq.{length-take-le}
+use borrow.Author.Needs.{needs}
+use Rattle.trials.proofs.files.is_answer.Statement.{statement}
+use Rattle.trials.proofs.files.is_answer.Tie as tie
+
+slice-aggregate-read-data : tie.Need-slice-aggregate-read-data
+slice-aggregate-read-data c = search needs
+
+read-data-requires : tie.Need-read-data-requires
+read-data-requires c κs = search needs
+
+slice-aggregate-make-report : tie.Need-slice-aggregate-make-report
+slice-aggregate-make-report c = search needs
+
+make-report-requires : tie.Need-make-report-requires
+make-report-requires c κs = search needs
+
+enum-told : tie.Need-enum-told
+enum-told c = search needs
+
+enum-known-count : tie.Need-enum-known-count
+enum-known-count c = search needs
+
+at-most-requires : tie.Need-at-most-requires
+at-most-requires c κs = search needs
+
+array-share-prefix-lines : tie.Need-array-share-prefix-lines
+array-share-prefix-lines c = search needs
+
+slice-aggregate-same : tie.Need-slice-aggregate-same
+slice-aggregate-same c = sym (length-take-le _ _ (array-share-prefix-lines (c .before)))
+
+array-share-prefix-answer : tie.Need-array-share-prefix-answer
+array-share-prefix-answer c = search needs
+
+slice-aggregate-same-2 : tie.Need-slice-aggregate-same-2
+slice-aggregate-same-2 c = sym (length-take-le _ _ (array-share-prefix-answer (c .before)))
+
+same-requires : tie.Need-same-requires
+same-requires c κs = search needs
+
+returns : tie.Need-returns
+returns c = search needs
+
+returns-2 : tie.Need-returns-2
+returns-2 c = search needs
+
+pub is-answer-spec : {M : Type 1} → statement M
+is-answer-spec =
+    tie.close
+    (tie.spec
+    slice-aggregate-read-data
+    read-data-requires
+    slice-aggregate-make-report
+    make-report-requires
+    enum-told
+    enum-known-count
+    at-most-requires
+    array-share-prefix-lines
+    slice-aggregate-same
+    array-share-prefix-answer
+    slice-aggregate-same-2
+    same-requires
+    returns
+    returns-2)

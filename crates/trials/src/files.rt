@@ -1,0 +1,225 @@
+// The files of data/, NNN.txt with the answer NNN.out: up to 119 an independent calculation's, the others document 01's own figures.
+ghost use Prim.Native.Nat.{_+_, _≤_};
+ghost use lib.ListN.{length};
+use crate::say;
+use offsets::Read;
+use offsets::Written;
+use ranges::Particulars;
+use report::Report;
+
+const FILES: u64 = 127;
+
+// One byte more than a file may have.
+const LONGEST_INPUT: usize = 16_385;
+
+// What trying a file shows: whether its sheet is the answer beside it, whether the reader refuses it, and whether what it reads,
+// written and read again, is the same.
+struct Trial {
+    agrees: bool,
+    refused: bool,
+    alike: bool,
+}
+
+// Prints how many files agree, are refused, and come back alike; and which fail.
+pub(crate) fn try_all() {
+    let mut agreed: u64 = 0;
+    let mut refused: u64 = 0;
+    let mut alike: u64 = 0;
+    let mut i: u64 = 0;
+    while i < FILES {
+        let trial = trial_of(i);
+        agreed = counted(agreed, trial.agrees);
+        refused = counted(refused, trial.refused);
+        alike = counted(alike, trial.alike);
+        print_failing(i, trial);
+        i += 1;
+    }
+    say::number(b"sheets that agree ", agreed);
+    say::number(b"files refused ", refused);
+    say::number(b"files written and read again alike ", alike);
+}
+
+// A file fails where its sheet differs, or it is read and does not come back alike.
+fn print_failing(i: u64, trial: Trial) {
+    if !trial.agrees || trial.refused == trial.alike {
+        say::number(b"fails ", i);
+    }
+}
+
+// One more where it is so.
+fn counted(n: u64, is_so: bool) -> u64
+    requires { ⌜ n ≤ 127 ⌝ }
+    ensures { λ r. ⌜ r ≤ n + 1 ⌝ }
+{
+    if is_so {
+        return n + 1;
+    }
+    n
+}
+
+// Puts the bytes of a file of data/ into the room, and answers how many.
+pub(crate) fn read_data(i: u64, ending: [u8; 3], text: &mut [u8]) -> usize
+    ensures { λ r. ⌜ r ≤ length (now (text .exit)) ⌝ }
+{
+    let path = [
+        digit(i / 100),
+        digit(i / 10),
+        digit(i),
+        b'.',
+        ending[0],
+        ending[1],
+        ending[2],
+    ];
+    let fd = os::open_read(&path);
+    if fd < 0 {
+        os::fail(&path);
+        return 0;
+    }
+    let count = io::read_full(fd, text);
+    libc::close(fd);
+    count
+}
+
+fn digit(n: u64) -> u8 {
+    b'0' + (n % 10) as u8
+}
+
+fn trial_of(i: u64) -> Trial {
+    let mut text = [0u8; LONGEST_INPUT];
+    let count = read_data(i, [b't', b'x', b't'], &mut text);
+    let agrees = is_answer(i, &text[..count]);
+    let mut half_breadths = [0u64; ranges::HALF_BREADTH_ROOM];
+    let mut items = [0i64; ranges::ITEM_ROOM];
+    let mut tanks = [0i64; ranges::TANK_ROOM];
+    match offsets::read_file(&text[..count], &mut half_breadths, &mut items, &mut tanks) {
+        Read::Refused(_) => Trial {
+            agrees,
+            refused: true,
+            alike: false,
+        },
+        Read::Sheet(summary) => {
+            let p = summary.particulars;
+            let points = points_of(p);
+            let item_numbers = at_most(summary.items, ranges::MOST_ITEMS) * ranges::ITEM_WIDTH;
+            let tank_numbers = at_most(summary.tanks, ranges::MOST_TANKS) * ranges::TANK_WIDTH;
+            let alike = is_same_again(
+                p,
+                &half_breadths[..points],
+                &items[..item_numbers],
+                &tanks[..tank_numbers],
+            );
+            Trial {
+                agrees,
+                refused: false,
+                alike,
+            }
+        }
+    }
+}
+
+// Whether the sheet of file i's text is the answer that stands beside it.
+fn is_answer(i: u64, text: &[u8]) -> bool {
+    let mut answer = [0u8; report::LONGEST_SHEET];
+    let answer_count = read_data(i, [b'o', b'u', b't'], &mut answer);
+    let mut lines = [0u8; report::LONGEST_SHEET];
+    match report::make_report(text, &mut lines) {
+        Report::Refused(_) => false,
+        Report::Lines(count) => {
+            let end = at_most(count, report::LONGEST_SHEET);
+            check::same(&lines[..end], &answer[..answer_count])
+        }
+    }
+}
+
+fn at_most(n: usize, most: usize) -> usize
+    ensures { λ r. ⌜ r ≤ most ⌝ }
+{
+    if n < most {
+        return n;
+    }
+    most
+}
+
+// How many half-breadths a hull has.
+fn points_of(p: Particulars) -> usize
+    ensures { λ r. ⌜ r ≤ 861 ⌝ }
+{
+    let stations = at_most(p.n, 40) + 1;
+    let waterlines = at_most(p.m, 20) + 1;
+    stations * waterlines
+}
+
+// Whether these tables, written and read, are the same.
+fn is_same_again(p: Particulars, half_breadths: &[u64], items: &[i64], tanks: &[i64]) -> bool {
+    let mut text = [0u8; ranges::LONGEST_FILE];
+    match offsets::write_file(p, half_breadths, items, tanks, &mut text) {
+        Written::Refused(_) => false,
+        Written::Wrote(count) => {
+            let end = at_most(count, ranges::LONGEST_FILE);
+            is_read(&text[..end], p, half_breadths, items, tanks)
+        }
+    }
+}
+
+// Whether a text is read as these tables.
+fn is_read(
+    text: &[u8],
+    p: Particulars,
+    half_breadths: &[u64],
+    items: &[i64],
+    tanks: &[i64],
+) -> bool {
+    let mut half_breadths_read = [0u64; ranges::HALF_BREADTH_ROOM];
+    let mut items_read = [0i64; ranges::ITEM_ROOM];
+    let mut tanks_read = [0i64; ranges::TANK_ROOM];
+    match offsets::read_file(
+        text,
+        &mut half_breadths_read,
+        &mut items_read,
+        &mut tanks_read,
+    ) {
+        Read::Refused(_) => false,
+        Read::Sheet(summary) => {
+            is_same_hull(p, summary.particulars)
+                && summary.items == items.len() / ranges::ITEM_WIDTH
+                && summary.tanks == tanks.len() / ranges::TANK_WIDTH
+                && starts_whole(half_breadths, &half_breadths_read)
+                && starts(items, &items_read)
+                && starts(tanks, &tanks_read)
+        }
+    }
+}
+
+fn is_same_hull(p: Particulars, q: Particulars) -> bool {
+    p.n == q.n && p.m == q.m && p.s == q.s && p.d == q.d && p.density == q.density
+}
+
+// Whether a table starts with these numbers.
+fn starts(front: &[i64], table: &[i64]) -> bool {
+    if table.len() < front.len() {
+        return false;
+    }
+    let mut i = 0;
+    while i < front.len() {
+        if front[i] != table[i] {
+            return false;
+        }
+        i += 1;
+    }
+    true
+}
+
+// The same for whole numbers.
+fn starts_whole(front: &[u64], table: &[u64]) -> bool {
+    if table.len() < front.len() {
+        return false;
+    }
+    let mut i = 0;
+    while i < front.len() {
+        if front[i] != table[i] {
+            return false;
+        }
+        i += 1;
+    }
+    true
+}
