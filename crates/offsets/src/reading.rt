@@ -87,7 +87,7 @@ fn is_between(v: i64, least: usize, most: usize) -> bool
 }
 
 // A count after a step.
-pub fn count_after(text: &[u8], step: Step, least: usize, most: usize) -> Step
+pub(crate) fn count_after(text: &[u8], step: Step, least: usize, most: usize) -> Step
     ensures { λ r. ⌜ Counts (now (text .entry)) step least most r ⌝ }
 {
     match step {
@@ -96,7 +96,7 @@ pub fn count_after(text: &[u8], step: Step, least: usize, most: usize) -> Step
     }
 }
 
-pub fn count_of(step: Step) -> usize
+pub(crate) fn count_of(step: Step) -> usize
     ensures { λ r. ⌜ r ≡ countOf step ⌝ }
 {
     match step {
@@ -106,7 +106,7 @@ pub fn count_of(step: Step) -> usize
 }
 
 // The numbers of records after a step, `n` of them, into the front of a table. The records' fields are `width` from number `first` on.
-pub fn numbers_after(
+pub(crate) fn numbers_after(
     text: &[u8],
     step: Step,
     first: usize,
@@ -153,7 +153,7 @@ fn numbers_from(
 }
 
 // Nothing may follow the last section.
-pub fn finish(text: &[u8], step: Step) -> Step
+pub(crate) fn finish(text: &[u8], step: Step) -> Step
     ensures { λ r. ⌜ Finishes (now (text .entry)) step r ⌝ }
 {
     match step {

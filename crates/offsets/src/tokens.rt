@@ -15,7 +15,7 @@ pub enum Found {
 }
 
 // The first token from a place on that stands in no token.
-pub fn next_token(text: &[u8], from: usize) -> Found
+pub(crate) fn next_token(text: &[u8], from: usize) -> Found
     ensures { λ r. ⌜ Finds (now (text .entry)) (tokensAt (now (text .entry)) from) r ⌝ }
 {
     let at = first_byte(text, from);

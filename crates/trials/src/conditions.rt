@@ -87,49 +87,30 @@ fn metacentric_heights() {
 // At the limit of heel and one kg·mm beyond it, to each side.
 fn heels() {
     say::bytes(b"heels\n");
-    try_load(&[70_000, 0, 176, 1_000, 30_000, 0, 177, 1_000], &[], &ROWS);
-    try_load(
-        &[70_000, 0, -176, 1_000, 30_000, 0, -177, 1_000],
-        &[],
-        &ROWS,
-    );
-    try_load(
-        &[
-            70_000,
-            0,
-            176,
-            1_000,
-            29_999,
-            0,
-            177,
-            1_000,
-            1,
-            0,
-            178,
-            1_000,
-        ],
-        &[],
-        &ROWS,
-    );
-    try_load(
-        &[
-            70_000,
-            0,
-            -176,
-            1_000,
-            29_999,
-            0,
-            -177,
-            1_000,
-            1,
-            0,
-            -178,
-            1_000,
-        ],
-        &[],
-        &ROWS,
-    );
+    three([70_000, 30_000, 0], [176, 177, 0]);
+    three([70_000, 30_000, 0], [-176, -177, 0]);
+    three([70_000, 29_999, 1], [176, 177, 178]);
+    three([70_000, 29_999, 1], [-176, -177, -178]);
     one(100_000, 1, 2_001);
+}
+
+// Three items a metre up, by their weights and how far they stand to starboard.
+fn three(kg: [i64; 3], y: [i64; 3]) {
+    let items = [
+        kg[0],
+        0,
+        y[0],
+        1_000,
+        kg[1],
+        0,
+        y[1],
+        1_000,
+        kg[2],
+        0,
+        y[2],
+        1_000,
+    ];
+    try_load(&items, &[], &ROWS);
 }
 
 // A tank half full, full, empty and all but full.
