@@ -8,10 +8,20 @@ ghost use Rattle.offsets.specs.Reader.{Reads, particularsOf};
 ghost use Rattle.offsets.specs.Steps.{Parses, Rooms, Sized, pointsIn};
 use crate::Read;
 use crate::Summary;
-use crate::reading;
 use crate::reading::Step;
+use crate::reading::count_after;
+use crate::reading::count_of;
+use crate::reading::finish;
+use crate::reading::numbers_after;
+use ranges::HALF_BREADTH;
+use ranges::ITEM;
+use ranges::ITEM_WIDTH;
+use ranges::PARTICULAR_COUNT;
+use ranges::PARTICULARS;
 use ranges::Particulars;
 use ranges::Refusal;
+use ranges::TANK;
+use ranges::TANK_WIDTH;
 
 // A whole file's counts: half-breadths, items and tanks.
 pub enum Parsed {
@@ -100,54 +110,28 @@ fn parse(
     ensures { λ r. ⌜ Parses (now (text .entry)) (now (hull .exit)) (now («half_breadths» .exit)) (now (items .exit)) (now (tanks .exit)) r ⌝ }
 {
     let start = Step::At { count: 0, next: 0 };
-    let five = reading::count_after(
-        text,
-        start,
-        ranges::PARTICULAR_COUNT,
-        ranges::PARTICULAR_COUNT,
-    );
-    let hull_read = reading::numbers_after(
+    let five = count_after(text, start, PARTICULAR_COUNT, PARTICULAR_COUNT);
+    let hull_read = numbers_after(
         text,
         five,
-        ranges::PARTICULARS,
-        ranges::PARTICULAR_COUNT,
-        ranges::PARTICULAR_COUNT,
+        PARTICULARS,
+        PARTICULAR_COUNT,
+        PARTICULAR_COUNT,
         hull,
     );
     let points = points_in(hull);
-    let grid = reading::count_after(text, hull_read, points, points);
-    let point_count = reading::count_of(grid);
-    let grid_read = reading::numbers_after(
-        text,
-        grid,
-        ranges::HALF_BREADTH,
-        1,
-        point_count,
-        half_breadths,
-    );
-    let aboard = reading::count_after(text, grid_read, 0, ranges::MOST_ITEMS);
-    let item_count = reading::count_of(aboard);
-    let item_numbers = ranges::ITEM_WIDTH * item_count;
-    let aboard_read = reading::numbers_after(
-        text,
-        aboard,
-        ranges::ITEM,
-        ranges::ITEM_WIDTH,
-        item_numbers,
-        items,
-    );
-    let held = reading::count_after(text, aboard_read, 0, ranges::MOST_TANKS);
-    let tank_count = reading::count_of(held);
-    let tank_numbers = ranges::TANK_WIDTH * tank_count;
-    let held_read = reading::numbers_after(
-        text,
-        held,
-        ranges::TANK,
-        ranges::TANK_WIDTH,
-        tank_numbers,
-        tanks,
-    );
-    match reading::finish(text, held_read) {
+    let grid = count_after(text, hull_read, points, points);
+    let point_count = count_of(grid);
+    let grid_read = numbers_after(text, grid, HALF_BREADTH, 1, point_count, half_breadths);
+    let aboard = count_after(text, grid_read, 0, ranges::MOST_ITEMS);
+    let item_count = count_of(aboard);
+    let item_numbers = ITEM_WIDTH * item_count;
+    let aboard_read = numbers_after(text, aboard, ITEM, ITEM_WIDTH, item_numbers, items);
+    let held = count_after(text, aboard_read, 0, ranges::MOST_TANKS);
+    let tank_count = count_of(held);
+    let tank_numbers = TANK_WIDTH * tank_count;
+    let held_read = numbers_after(text, held, TANK, TANK_WIDTH, tank_numbers, tanks);
+    match finish(text, held_read) {
         Step::Refused(r) => Parsed::Refused(r),
         Step::At { count: _, next: _ } => Parsed::Whole {
             points: point_count,
