@@ -53,7 +53,14 @@ pub enum Display {
     Refused(Refusal),
 }
 
-// The rows of a hull into the lent table, seven numbers each.
+// How many numbers a row has, how many rows the largest hull has, and the room for all of them.
+pub const ROW_WIDTH: usize = 7;
+
+pub const MOST_ROWS: usize = 19;
+
+pub const ROW_ROOM: usize = 133;
+
+// The rows of a hull into the lent table.
 pub fn make_rows(half_breadths: &[u64], p: Particulars, rows: &mut [u64]) -> Rows
     ensures { λ r. ⌜ MakesRows (now («half_breadths» .entry)) p (now (rows .entry)) (now (rows .exit)) r ⌝ }
 {
@@ -66,7 +73,7 @@ pub fn make_rows(half_breadths: &[u64], p: Particulars, rows: &mut [u64]) -> Row
     if half_breadths.len() != (n + 1) * (m + 1) {
         return refused(Refusal::WRONG_SIZE, Refusal::HALF_BREADTH_TABLE);
     }
-    if rows.len() < 7 * (m - 1) {
+    if rows.len() < ROW_WIDTH * (m - 1) {
         return refused(Refusal::WRONG_SIZE, Refusal::ROW_TABLE);
     }
     let outside = ranges::half_breadth_outside(half_breadths);
@@ -75,9 +82,6 @@ pub fn make_rows(half_breadths: &[u64], p: Particulars, rows: &mut [u64]) -> Row
     }
     fill_rows(half_breadths, p, rows)
 }
-
-// How many numbers a row has: the place after the last.
-const NUMBERS: usize = 7;
 
 // The range of each number of a row: its least and its greatest.
 const LEAST: [u64; 7] = [20, 1, 0, 0, 0, 0, 0];
@@ -122,7 +126,7 @@ pub fn row_outside(row: Row) -> usize
         row.area,
     ];
     let mut i: usize = 0;
-    while i < NUMBERS {
+    while i < ROW_WIDTH {
         if !in_range(i, numbers[i]) {
             return i;
         }
@@ -160,7 +164,7 @@ pub fn display_row(row: Row) -> Display
     ensures { λ r. ⌜ paper r ≡ displayOf row ⌝ }
 {
     let place = row_outside(row);
-    if place < NUMBERS {
+    if place < ROW_WIDTH {
         return Display::Refused(Refusal {
             number: Refusal::OUT_OF_RANGE,
             place,

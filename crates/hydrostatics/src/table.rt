@@ -9,6 +9,8 @@ ghost use Rattle.hydrostatics.specs.Promise.{paper};
 ghost use Rattle.hydrostatics.specs.Row.{rowAt, numbersOf};
 ghost use Rattle.hydrostatics.specs.Table.{noRow, numbersUpTo, TriedRows, FillsRows};
 ghost use Rattle.hydrostatics.specs.Waterplanes.{InRange, Given, Kept, SumsOf, SumsWithin};
+use crate::MOST_ROWS;
+use crate::ROW_WIDTH;
 use crate::Row;
 use crate::Rows;
 use crate::waterplanes::Sums;
@@ -21,7 +23,7 @@ use ranges::Refusal;
 
 // The rows of a hull before they are written, and what is answered.
 struct Tried {
-    pub rows: [Row; 19],
+    pub rows: [Row; MOST_ROWS],
     pub answer: Rows,
 }
 
@@ -113,7 +115,7 @@ fn try_upward(table: &[u64], u: &[u64; 41], q: &[u64; 21], x: &[u64; 21], p: Par
     ensures { λ r. ⌜ TriedRows (now (table .entry)) p r ⌝ }
 {
     let count = p.m - 1;
-    let mut rows = [NO_ROW; 19];
+    let mut rows = [NO_ROW; MOST_ROWS];
     let mut before: u64 = 0;
     let mut r: usize = 0;
     while r < count {
@@ -163,14 +165,14 @@ fn write_row(row: Row, part: &mut [u64])
 }
 
 // Each of the first `count` rows, into the part of the table that starts at seven times its number.
-fn write_rows(made: [Row; 19], count: usize, rows: &mut [u64])
+fn write_rows(made: [Row; MOST_ROWS], count: usize, rows: &mut [u64])
     requires { ⌜ (count ≤ 19) × (7 * count ≤ length (now rows)) ⌝ }
     ensures { λ _. ⌜ now (rows .exit) ≡ numbersUpTo (λ r. getD made r noRow) count ++ drop (7 * count) (now (rows .entry)) ⌝ }
 {
     let mut r: usize = 0;
     while r < count {
         let row = made[r];
-        let at = 7 * r;
+        let at = ROW_WIDTH * r;
         write_row(row, &mut rows[at..]);
         r += 1;
     }

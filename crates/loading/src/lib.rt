@@ -92,10 +92,8 @@ struct Aboard {
     surface: u64,
 }
 
-// How many rows a condition may have.
+// A condition needs two rows, to lie between them.
 const LEAST_ROWS: usize = 2;
-
-const MOST_ROWS: usize = 19;
 
 fn refused(number: u64, place: usize) -> Answer
     ensures { λ r. ⌜ r ≡ Answer.Refused (record { number = number; place = place }) ⌝ }
@@ -107,10 +105,10 @@ fn refused(number: u64, place: usize) -> Answer
 fn rows_allowed(count: usize) -> bool
     ensures { λ r. ⌜ r ≡ (wholeRecords 7 19 count && leb 2 (count / 7)) ⌝ }
 {
-    if !ranges::whole_records(rows::ROW_WIDTH, MOST_ROWS, count) {
+    if !ranges::whole_records(hydrostatics::ROW_WIDTH, hydrostatics::MOST_ROWS, count) {
         return false;
     }
-    LEAST_ROWS <= count / rows::ROW_WIDTH
+    LEAST_ROWS <= count / hydrostatics::ROW_WIDTH
 }
 
 // What is aboard against the rows: 11 below the first, 12 above the last, and else the condition.
@@ -156,7 +154,7 @@ pub fn condition_of(items: &[i64], tanks: &[i64], rows: &[u64]) -> Answer
     if !rows_allowed(rows.len()) {
         return refused(Refusal::WRONG_SIZE, Refusal::ROW_TABLE);
     }
-    let count = rows.len() / rows::ROW_WIDTH;
+    let count = rows.len() / hydrostatics::ROW_WIDTH;
     let bad_row = usable::unusable_row(rows, count);
     if bad_row < count {
         return refused(Refusal::ROWS_NOT_USABLE, bad_row);

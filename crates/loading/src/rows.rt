@@ -3,10 +3,8 @@ ghost use mathlib.Core.Path.{_≡_};
 ghost use Prim.Native.Nat.{_≤_};
 ghost use lib.ListN.{getD};
 ghost use Rattle.hydrostatics.specs.Usable.{rowIn};
+use hydrostatics::ROW_WIDTH;
 use hydrostatics::Row;
-
-// How many numbers a row has.
-pub(crate) const ROW_WIDTH: usize = 7;
 
 // The number at place i of a table, or 0 beyond its end.
 pub(crate) fn number_at(rows: &[u64], i: usize) -> u64

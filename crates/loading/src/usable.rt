@@ -29,7 +29,7 @@ fn is_spaced(rows: &[u64], r: usize) -> bool
     if GREATEST_SPACING < spacing {
         return false;
     }
-    rows::number_at(rows, rows::ROW_WIDTH * r) == (r as u64 + 2) * spacing
+    rows::number_at(rows, hydrostatics::ROW_WIDTH * r) == (r as u64 + 2) * spacing
 }
 
 // Row r displaces more than the row before it.
@@ -60,7 +60,7 @@ fn is_usable(rows: &[u64], r: usize) -> bool
     ensures { λ b. ⌜ b ≡ usableRow (now (rows .entry)) r ⌝ }
 {
     let row = rows::row_at(rows, r);
-    if hydrostatics::row_outside(row) != rows::ROW_WIDTH {
+    if hydrostatics::row_outside(row) != hydrostatics::ROW_WIDTH {
         return false;
     }
     if !is_spaced(rows, r) {

@@ -5,11 +5,10 @@
 --     Whole, whole-file       the contents of a file
 --     whole-read              the same of what the reader answers
 -- Assumes nothing.
-use Prim.Native.Nat.{ℕ, zero, suc, _+_, _*_, _/_, _≤_, _<_}
+use Prim.Native.Nat.{ℕ, zero, suc, _*_, _≤_}
 use mathlib.Core.Bool.{Bool, true, false}
 use mathlib.Core.Path.{_≡_, refl, sym, ap, _∙_}
-use mathlib.Core.List.{List, [], _∷_, _++_}
-use native.Mathlib.Nat.{mul-div-cancel-left}
+use mathlib.Core.List.{List, [], _∷_}
 use native.Mathlib.Omega.{arith}
 use lib.Dec.{ltb}
 use lib.IntN.{ℤ, pos, natAbs}
@@ -20,8 +19,8 @@ use Rattle.offsets.specs.File.{Contents, records, points, section, complete, fi
 use Rattle.offsets.specs.Reader.{readerOf}
 use Rattle.offsets.specs.Reading.{one, count, numbers}
 use Rattle.offsets.specs.Tokens.{Token, number, noNumber, tokens}
-use Rattle.offsets.proofs.Within.{refused-not, answer-same, within-positive, Took, took}
-use Rattle.ranges.specs.Fields.{Range, _to_, within, particulars, halfBreadth, item, tank, least, most}
+use Rattle.offsets.proofs.Within.{refused-not, answer-same, within-positive, took}
+use Rattle.ranges.specs.Fields.{Range, _to_, within, particulars, halfBreadth, item, tank}
 use Rattle.ranges.specs.Outcome.{Outcome, answered, refused, andThen}
 use Rattle.ranges.specs.Refusals.{countNotAllowed, wrongSize, fileTooLong}
 use Rattle.ranges.specs.Sizes.{longestFile, mostItems, mostTanks, roomForHalfBreadths, roomForItems, roomForTanks}

@@ -11,14 +11,14 @@
 -- Assumes nothing.
 use Prim.Native.Nat.{ℕ, _+_, _*_, _-_, _/_, _≤_, _<_}
 use mathlib.Core.Path.{_≡_, refl, sym, ap, _∙_}
-use mathlib.Core.List.{List, [], _∷_, _++_, map}
+use mathlib.Core.List.{List, _++_, map}
 use native.Mathlib.Nat.{mul-le-mul}
 use native.Mathlib.Omega.{arith}
 use borrow.Author.Tests.{lt-ltb, le-ltb, ltb-false}
 use lib.Dec.{ltb}
 use lib.IntN.{ℤ, pos, natAbs}
-use lib.ListN.{length, take, drop, getD, length-map, length-append}
-use lib.Seq.{take-at, take-length, length-take-le}
+use lib.ListN.{length, take, drop, getD, length-map}
+use lib.Seq.{take-at, take-length}
 use Rattle.arithmetic.proofs.Choice.{chosen}
 use Rattle.arithmetic.proofs.Room.{laid-fits, laid-short}
 use Rattle.hydrostatics.specs.Promise as Rows
@@ -35,7 +35,7 @@ use Rattle.loading.specs.declared.Answer.the-variants as Answer
 use Rattle.loading.specs.declared.Condition.{Condition}
 use Rattle.offsets.specs.File.{Contents, points}
 use Rattle.offsets.specs.Reader as Reader
-use Rattle.offsets.specs.Reader.{Reads, readerOf, particularsOf, summaryOf, summarised, filled}
+use Rattle.offsets.specs.Reader.{Reads, readerOf, summaryOf, summarised, filled}
 use Rattle.offsets.specs.declared.Read.{Read as ReadAnswer}
 use Rattle.offsets.specs.declared.Read.the-variants as ReadAnswer
 use Rattle.offsets.specs.declared.Summary.{Summary}

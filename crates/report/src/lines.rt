@@ -8,12 +8,10 @@ ghost use Rattle.report.specs.Lines.{field, fields, rowLine, word, condi
 ghost use Rattle.report.specs.Putting.{Puts, Ready, mostField, mostRowLine, mostWord, mostConditionLine, mostRefusalLine};
 ghost use Rattle.hydrostatics.specs.Usable.{rowIn};
 ghost use Rattle.report.specs.Sheet.{rowLines};
+use hydrostatics::ROW_WIDTH;
 use loading::Condition;
 use loading::Heel;
 use ranges::Refusal;
-
-// How many numbers a row has.
-pub(crate) const ROW_WIDTH: usize = 7;
 
 // Some bytes.
 fn put(text: &mut [u8], at: usize, said: &[u8]) -> usize
@@ -113,7 +111,8 @@ pub(crate) fn put_condition(text: &mut [u8], at: usize, c: Condition) -> usize
     let gm = c.gm;
     let transverse_moment = c.transverse_moment;
     let heel = c.heel;
-    let mark = [c.passes as u64];
+    let passes = c.passes as u64;
+    let mark = [passes];
     let start = put(text, at, b"C");
     let after_wholes = put_wholes(text, start, &wholes);
     let after_gm = put_number(text, after_wholes, gm);

@@ -1,20 +1,16 @@
 // The lines of a whole sheet: each step puts what it comes to, or the E line where it is refused.
-ghost use Prim.Native.Nat.{_*_, _≤_};
+ghost use Prim.Native.Nat.{_*_};
 ghost use mathlib.Core.List.{_++_};
-ghost use mathlib.Core.Path.{_≡_};
-ghost use lib.ListN.{length};
 ghost use Rattle.hydrostatics.specs.Rows.{rowsOf};
 ghost use Rattle.loading.specs.Condition.{conditionOf};
 ghost use Rattle.report.specs.Putting.{Puts, Ready, WholeRows, longestSheet};
 ghost use Rattle.report.specs.Sheet.{rowLines, conditionSaid, rowsSaid, roomForRows, sheetOf};
 use crate::lines;
+use hydrostatics::ROW_ROOM;
 use hydrostatics::Rows;
 use loading::Answer;
 use offsets::Read;
 use ranges::Particulars;
-
-// Room for the rows of the largest hull: 19 of them.
-const ROW_ROOM: usize = 133;
 
 // The E line of the reader, or what follows of the file's tables.
 pub(crate) fn put_sheet(text: &[u8], to: &mut [u8]) -> usize
@@ -57,7 +53,7 @@ fn put_hull(
     match hydrostatics::make_rows(half_breadths, particulars, &mut rows) {
         Rows::Refused(refusal) => lines::put_refusal(to, 0, refusal),
         Rows::Made(count) => {
-            let numbers = lines::ROW_WIDTH * count;
+            let numbers = hydrostatics::ROW_WIDTH * count;
             put_load(&rows[..numbers], count, items, tanks, to)
         }
     }

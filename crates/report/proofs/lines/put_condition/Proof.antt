@@ -1,14 +1,14 @@
 -- Eight pieces, one after another, are the C line. Assumes nothing.
 use native.Mathlib.Omega.{arith}
 use borrow.Author.Needs.{needs}
-use Rattle.arithmetic.proofs.Crossing.{back, back-is}
+use Rattle.arithmetic.proofs.Crossing.{back-is}
 use Rattle.report.proofs.Fields.{room-for-mark, puts-eight, condition-line}
 use Rattle.report.proofs.Pieces.{ready-le, ready-next, puts-length}
 use Rattle.report.proofs.lines.put_condition.Statement.{statement}
 use Rattle.report.proofs.lines.put_condition.Tie as tie
 
-cast-t19 : tie.Need-cast-t19
-cast-t19 c = search needs
+cast-passes : tie.Need-cast-passes
+cast-passes c = search needs
 
 slice-aggregate-put : tie.Need-slice-aggregate-put
 slice-aggregate-put c = search needs
@@ -65,7 +65,7 @@ pub put-condition-spec : {M : Type 1} → statement M
 put-condition-spec =
     tie.close
     (tie.spec
-    cast-t19
+    cast-passes
     slice-aggregate-put
     put-requires
     slice-aggregate-put-wholes

@@ -2,7 +2,7 @@
 use borrow.Author.Needs.{needs}
 use native.Mathlib.Omega.{arith}
 use Rattle.report.proofs.Pieces.{signed-small, puts-printed}
-use Rattle.arithmetic.proofs.Crossing.{back, back-is}
+use Rattle.arithmetic.proofs.Crossing.{back-is}
 use Rattle.report.proofs.lines.put_number.Statement.{statement}
 use Rattle.report.proofs.lines.put_number.Tie as tie
 

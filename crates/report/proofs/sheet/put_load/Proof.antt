@@ -1,5 +1,4 @@
 -- The R lines, and then what the condition comes to. Assumes nothing.
-use native.Mathlib.Omega.{arith}
 use borrow.Author.Needs.{needs}
 use Rattle.report.proofs.Sheets.{load-refused, load-laden}
 use Rattle.report.proofs.sheet.put_load.Statement.{statement}
