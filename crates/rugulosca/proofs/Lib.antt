@@ -1,0 +1,2 @@
+-- The laws behind the calls for other languages.
+pub mod Telling

@@ -1,0 +1,39 @@
+-- What is left when a call's outcome is known.
+--     told          the values of an answer
+--     declined      a refusal
+--     same-values, same-tangent    equal outcomes leave the same
+--     rows-at, written-at    the promises beneath, at particulars that are equal
+-- Assumes nothing.
+use Prim.Native.Nat.{ℕ}
+use mathlib.Core.Path.{_≡_, ap, subst}
+use mathlib.Core.List.{List}
+use lib.Ieee.{Float}
+use lib.IntN.{ℤ}
+use Rattle.ranges.specs.Outcome.{Outcome, answered, refused}
+use Rattle.ranges.specs.declared.Particulars.{Particulars}
+use Rattle.hydrostatics.specs.Promise.{MakesRows}
+use Rattle.hydrostatics.specs.declared.Rows.{Rows}
+use Rattle.loading.specs.declared.Condition.{Condition}
+use Rattle.offsets.specs.Writer.{Writes}
+use Rattle.offsets.specs.declared.Written.{Written}
+use Rattle.rugulosca.specs.Told.{numberOf, placeAfter, valueAfter, tangentAfter, Tells}
+
+pub told : {A B : Type 0} (value : A → B) {o : Outcome A} {a : A} {was : B} {place : ℕ} → answered a ≡ o → Tells value o was (value a) place place 0
+told value {was} {place} e =
+    record { number-is = ap numberOf e; place-is = ap (λ o. placeAfter o place) e; value-is = ap (λ o. valueAfter value o was) e }
+
+pub declined : {A B : Type 0} (value : A → B) {o : Outcome A} {was : B} {place number p : ℕ} → refused number p ≡ o → Tells value o was was place p number
+declined value {was} {place} e =
+    record { number-is = ap numberOf e; place-is = ap (λ o. placeAfter o place) e; value-is = ap (λ o. valueAfter value o was) e }
+
+pub same-values : {A B : Type 0} (value : A → B) {o q : Outcome A} (was : B) → o ≡ q → valueAfter value o was ≡ valueAfter value q was
+same-values value was e = ap (λ o. valueAfter value o was) e
+
+pub same-tangent : {o q : Outcome Condition} (was : Float) → o ≡ q → tangentAfter o was ≡ tangentAfter q was
+same-tangent was e = ap (λ o. tangentAfter o was) e
+
+pub rows-at : {p q : Particulars} {table rows after : List ℕ} {answer : Rows} → p ≡ q → MakesRows table p rows after answer → MakesRows table q rows after answer
+rows-at {table} {rows} {after} {answer} e makes = subst (λ p. MakesRows table p rows after answer) e makes
+
+pub written-at : {p q : Particulars} {h : List ℕ} {i t : List ℤ} {room left : List ℕ} {answer : Written} → p ≡ q → Writes p h i t room left answer → Writes q h i t room left answer
+written-at {h} {i} {t} {room} {left} {answer} e writes = subst (λ p. Writes p h i t room left answer) e writes

@@ -1,0 +1,2 @@
+-- What the calls for other languages leave: the definitions they stand on are those of the crates below.
+pub mod Told

@@ -1,0 +1,94 @@
+-- How an outcome is told by numbers alone: 0 and the values of the answer, or the refusal's number and its place. What is not
+-- told stays as it was.
+use Prim.Native.Nat.{ℕ}
+use mathlib.Core.List.{List, [], _∷_, map}
+use mathlib.Core.Path.{_≡_}
+use lib.Ieee.{Float}
+use lib.IntN.{ℤ, natAbs}
+use lib.ListN.{getD}
+use Rattle.hydrostatics.specs.declared.Figures.{Figures}
+use Rattle.hydrostatics.specs.declared.Row.{Row}
+use Rattle.loading.specs.declared.Condition.{Condition}
+use Rattle.loading.specs.declared.Heel.{Heel}
+use Rattle.loading.specs.declared.Heel.the-variants.{Unstable, Upright, Heeled, Beyond}
+use Rattle.offsets.specs.File.{Contents}
+use Rattle.offsets.specs.Reader.{filled}
+use Rattle.offsets.specs.declared.Summary.{Summary}
+use Rattle.report.specs.Lines.{mark}
+use Rattle.ranges.specs.Outcome.{Outcome, answered, refused}
+use Rattle.ranges.specs.declared.Particulars.{Particulars}
+
+abbrev pub numberOf : {A : Type 0} → Outcome A → ℕ
+numberOf (answered a) = 0
+numberOf (refused number place) = number
+
+abbrev pub placeAfter : {A : Type 0} → Outcome A → ℕ → ℕ
+placeAfter (answered a) was = was
+placeAfter (refused number place) was = place
+
+abbrev pub valueAfter : {A B : Type 0} → (A → B) → Outcome A → B → B
+valueAfter value (answered a) was = value a
+valueAfter value (refused number place) was = was
+
+-- the number a call returns, the place it leaves, and the values
+pub record Tells {A B : Type 0} (value : A → B) (outcome : Outcome A) (was left : B) (place placeLeft number : ℕ) : Type 0 where
+  pub number-is : number ≡ numberOf outcome
+  pub place-is : placeLeft ≡ placeAfter outcome place
+  pub value-is : left ≡ valueAfter value outcome was
+
+-- the hull's particulars, from five numbers in the file's order
+abbrev pub particularsOf : List ℕ → Particulars
+particularsOf five = record { n = getD five 0 0; m = getD five 1 0; s = getD five 2 0; d = getD five 3 0; density = getD five 4 0 }
+
+-- a row, from its seven numbers
+abbrev pub rowOf : List ℕ → Row
+rowOf seven = record {
+  draft = getD seven 0 0;
+  displacement = getD seven 1 0;
+  lcb = getD seven 2 0;
+  kb = getD seven 3 0;
+  bm = getD seven 4 0;
+  km = getD seven 5 0;
+  area = getD seven 6 0;
+}
+
+-- the reader's three tables afterwards
+pub record ReadInto (outcome : Outcome Contents) (halfBreadths halfBreadthsLeft : List ℕ) (items itemsLeft tanks tanksLeft : List ℤ) : Type 0 where
+  pub half-breadths-left : halfBreadthsLeft ≡ filled (λ c. map natAbs (c .halfBreadths)) outcome halfBreadths
+  pub items-left : itemsLeft ≡ filled (λ c. c .items) outcome items
+  pub tanks-left : tanksLeft ≡ filled (λ c. c .tanks) outcome tanks
+
+-- the five particulars, the count of items and the count of tanks
+abbrev pub summaryNumbers : Summary → List ℕ
+summaryNumbers s =
+    s .particulars .n ∷ s .particulars .m ∷ s .particulars .s ∷ s .particulars .d ∷ s .particulars .density ∷ s .items ∷ s .tanks ∷ []
+
+-- the seven figures of a displayed row, in its order
+abbrev pub figureNumbers : Figures → List Float
+figureNumbers f = f .draft ∷ f .displacement ∷ f .lcb ∷ f .kb ∷ f .bm ∷ f .km ∷ f .area ∷ []
+
+-- how the vessel lies: 0 unstable, 1 upright, 2 heeled, 3 beyond
+abbrev pub lie : Heel → ℕ
+lie Unstable = 0
+lie Upright = 1
+lie (Heeled tangent) = 2
+lie Beyond = 3
+
+-- a condition's numbers without a sign, then how it lies and whether it passes; its numbers with a sign: GM and the transverse moment
+abbrev pub wholesOf : Condition → List ℕ
+wholesOf c =
+    c .weight ∷ c .draft ∷ c .km ∷ c .lcg ∷ c .«vertical_moment» ∷ c .«free_surface» ∷ lie (c .heel) ∷ mark (c .passes) ∷ []
+
+abbrev pub signedOf : Condition → List ℤ
+signedOf c = c .gm ∷ c .«transverse_moment» ∷ []
+
+-- the tangent is left only where the vessel is heeled
+abbrev pub tangentOf : Heel → Float → Float
+tangentOf (Heeled tangent) was = tangent
+tangentOf Unstable was = was
+tangentOf Upright was = was
+tangentOf Beyond was = was
+
+abbrev pub tangentAfter : Outcome Condition → Float → Float
+tangentAfter (answered c) was = tangentOf (c .heel) was
+tangentAfter (refused number place) was = was

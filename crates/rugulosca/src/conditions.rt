@@ -1,0 +1,79 @@
+// The loading condition.
+ghost use mathlib.Core.Path.{_≡_};
+ghost use Rattle.loading.specs.Condition.{conditionOf};
+ghost use Rattle.rugulosca.specs.Told.{Tells, valueAfter, lie, tangentOf, wholesOf, signedOf, tangentAfter};
+use crate::ANSWERED;
+use loading::Answer;
+use loading::Condition;
+use loading::Heel;
+
+// How the vessel lies, by number.
+fn lie(heel: Heel) -> u64
+    ensures { λ r. ⌜ r ≡ lie heel ⌝ }
+{
+    match heel {
+        Heel::Unstable => 0,
+        Heel::Upright => 1,
+        Heel::Heeled(_) => 2,
+        Heel::Beyond => 3,
+    }
+}
+
+// The tangent where the vessel is heeled, and else what stood there.
+fn tangent_of(heel: Heel, was: f64) -> f64
+    ensures { λ r. ⌜ r ≡ tangentOf heel was ⌝ }
+{
+    match heel {
+        Heel::Unstable => was,
+        Heel::Upright => was,
+        Heel::Heeled(tangent) => tangent,
+        Heel::Beyond => was,
+    }
+}
+
+// A condition's numbers without a sign.
+fn wholes_of(c: Condition) -> [u64; 8]
+    ensures { λ r. ⌜ r ≡ wholesOf c ⌝ }
+{
+    let heel = c.heel;
+    [
+        c.weight,
+        c.draft,
+        c.km,
+        c.lcg,
+        c.vertical_moment,
+        c.free_surface,
+        lie(heel),
+        c.passes as u64,
+    ]
+}
+
+// The condition of items and tanks over the rows of a hull.
+#[no_mangle]
+pub extern "C" fn rugulosca_condition(
+    items: &[i64],
+    tanks: &[i64],
+    rows: &[u64],
+    wholes: &mut [u64; 8],
+    signed_numbers: &mut [i64; 2],
+    tangent: &mut f64,
+    place: &mut usize,
+) -> u64
+    ensures { λ r. ⌜ Tells wholesOf (conditionOf (now (items .entry)) (now (tanks .entry)) (now (rows .entry))) (now (wholes .entry)) (now (wholes .exit)) (now (place .entry)) (now (place .exit)) r ⌝ }
+    ensures { λ _. ⌜ now («signed_numbers» .exit) ≡ valueAfter signedOf (conditionOf (now (items .entry)) (now (tanks .entry)) (now (rows .entry))) (now («signed_numbers» .entry)) ⌝ }
+    ensures { λ _. ⌜ now (tangent .exit) ≡ tangentAfter (conditionOf (now (items .entry)) (now (tanks .entry)) (now (rows .entry))) (now (tangent .entry)) ⌝ }
+{
+    match loading::condition_of(items, tanks, rows) {
+        Answer::Laden(c) => {
+            let heel = c.heel;
+            *wholes = wholes_of(c);
+            *signed_numbers = [c.gm, c.transverse_moment];
+            *tangent = tangent_of(heel, *tangent);
+            ANSWERED
+        }
+        Answer::Refused(refusal) => {
+            *place = refusal.place;
+            refusal.number
+        }
+    }
+}

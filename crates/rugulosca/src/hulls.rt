@@ -1,0 +1,85 @@
+// The rows of a hull, and one row for display.
+ghost use mathlib.Core.Path.{_≡_};
+ghost use lib.ListN.{length};
+ghost use Rattle.hydrostatics.specs.Display.{displayOf};
+ghost use Rattle.hydrostatics.specs.Promise.{countOf, tableAfter};
+ghost use Rattle.hydrostatics.specs.Rows.{rowsOf};
+ghost use Rattle.rugulosca.specs.Told.{Tells, particularsOf, rowOf, figureNumbers};
+use crate::ANSWERED;
+use hydrostatics::Display;
+use hydrostatics::Row;
+use hydrostatics::Rows;
+use ranges::Particulars;
+
+// Five numbers as a hull's particulars.
+pub(crate) fn particulars_of(five: &[u64; 5]) -> Particulars
+    ensures { λ r. ⌜ r ≡ particularsOf (now (five .entry)) ⌝ }
+{
+    Particulars {
+        n: five[0] as usize,
+        m: five[1] as usize,
+        s: five[2],
+        d: five[3],
+        density: five[4],
+    }
+}
+
+// The rows of a hull, and how many there are.
+#[no_mangle]
+pub extern "C" fn rugulosca_rows(
+    half_breadths: &[u64],
+    particulars: &[u64; 5],
+    rows: &mut [u64],
+    count: &mut usize,
+    place: &mut usize,
+) -> u64
+    ensures { λ r. ⌜ Tells (λ n. n) (countOf (rowsOf (now («half_breadths» .entry)) (particularsOf (now (particulars .entry))) (length (now (rows .entry))))) (now (count .entry)) (now (count .exit)) (now (place .entry)) (now (place .exit)) r ⌝ }
+    ensures { λ _. ⌜ now (rows .exit) ≡ tableAfter (rowsOf (now («half_breadths» .entry)) (particularsOf (now (particulars .entry))) (length (now (rows .entry)))) (now (rows .entry)) ⌝ }
+{
+    match hydrostatics::make_rows(half_breadths, particulars_of(particulars), rows) {
+        Rows::Made(made) => {
+            *count = made;
+            ANSWERED
+        }
+        Rows::Refused(refusal) => {
+            *place = refusal.place;
+            refusal.number
+        }
+    }
+}
+
+// Seven numbers as a row.
+fn row_of(seven: &[u64; 7]) -> Row
+    ensures { λ r. ⌜ r ≡ rowOf (now (seven .entry)) ⌝ }
+{
+    Row {
+        draft: seven[0],
+        displacement: seven[1],
+        lcb: seven[2],
+        kb: seven[3],
+        bm: seven[4],
+        km: seven[5],
+        area: seven[6],
+    }
+}
+
+// One row in metres, tonnes and square metres.
+#[no_mangle]
+pub extern "C" fn rugulosca_display(
+    row: &[u64; 7],
+    figures: &mut [f64; 7],
+    place: &mut usize,
+) -> u64
+    ensures { λ r. ⌜ Tells figureNumbers (displayOf (rowOf (now (row .entry)))) (now (figures .entry)) (now (figures .exit)) (now (place .entry)) (now (place .exit)) r ⌝ }
+{
+    match hydrostatics::display_row(row_of(row)) {
+        Display::Shown(f) => {
+            *figures = [f.draft, f.displacement, f.lcb, f.kb, f.bm, f.km, f.area];
+            ANSWERED
+        }
+        Display::Refused(refusal) => {
+            *place = refusal.place;
+            refusal.number
+        }
+    }
+}

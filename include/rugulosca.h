@@ -1,0 +1,79 @@
+/* Rugulosca for C: the proved calculation behind a loading sheet.
+ *
+ * Every call answers 0 and leaves its values, or answers the number of its one refusal, 1 to 14, and leaves the refusal's
+ * place. What it does not leave stays as it was: tables, room and values on a refusal, the place on an answer.
+ *
+ * No call has a condition on its numbers, lengths or bytes. What C owes: each pointer is valid for its length (for a
+ * length of 0 it is still not null) and aligned for its type, and what is lent for writing overlaps nothing else lent.
+ * Nothing is allocated, kept or locked: calls may run side by side on tables of their own.
+ */
+#ifndef RUGULOSCA_H
+#define RUGULOSCA_H
+
+#include <stddef.h>
+#include <stdint.h>
+
+#ifdef __cplusplus
+extern "C" {
+#endif
+
+/* Room that is never too short: for a sheet, for the numbers of a file, and for the rows of a hull. */
+enum {
+    RUGULOSCA_LONGEST_SHEET = 3173,
+    RUGULOSCA_HALF_BREADTH_ROOM = 861,
+    RUGULOSCA_ITEM_ROOM = 128,
+    RUGULOSCA_TANK_ROOM = 128,
+    RUGULOSCA_ROW_ROOM = 133
+};
+
+/* How the vessel lies, in `wholes[6]` of a condition. */
+enum {
+    RUGULOSCA_UNSTABLE = 0,
+    RUGULOSCA_UPRIGHT = 1,
+    RUGULOSCA_HEELED = 2,
+    RUGULOSCA_BEYOND = 3
+};
+
+/* From a file's text to the sheet's lines. `count`: the bytes of the sheet. Only 14 is refused here: every other refusal
+ * is the sheet's own E line. */
+uint64_t rugulosca_report(const uint8_t *text, size_t text_length,
+                          uint8_t *room, size_t room_length,
+                          size_t *count, size_t *place);
+
+/* Reads an offset file. `summary`: the five particulars, the count of items, the count of tanks. */
+uint64_t rugulosca_read(const uint8_t *text, size_t text_length,
+                        uint64_t *half_breadths, size_t half_breadths_length,
+                        int64_t *items, size_t items_length,
+                        int64_t *tanks, size_t tanks_length,
+                        uint64_t summary[7], size_t *place);
+
+/* Writes an offset file. `count`: the bytes of its text. */
+uint64_t rugulosca_write(const uint64_t particulars[5],
+                         const uint64_t *half_breadths, size_t half_breadths_length,
+                         const int64_t *items, size_t items_length,
+                         const int64_t *tanks, size_t tanks_length,
+                         uint8_t *room, size_t room_length,
+                         size_t *count, size_t *place);
+
+/* The rows of a hull, seven numbers each. `count`: how many rows. */
+uint64_t rugulosca_rows(const uint64_t *half_breadths, size_t half_breadths_length,
+                        const uint64_t particulars[5],
+                        uint64_t *rows, size_t rows_length,
+                        size_t *count, size_t *place);
+
+/* One row in metres, tonnes and square metres. */
+uint64_t rugulosca_display(const uint64_t row[7], double figures[7], size_t *place);
+
+/* The loading condition. `wholes`: weight, draft, KM, LCG, vertical moment, free surface, how it lies, 1 for a pass and 0
+ * otherwise. `signed_numbers`: GM, transverse moment. `tangent` is left only where the vessel is heeled. */
+uint64_t rugulosca_condition(const int64_t *items, size_t items_length,
+                             const int64_t *tanks, size_t tanks_length,
+                             const uint64_t *rows, size_t rows_length,
+                             uint64_t wholes[8], int64_t signed_numbers[2],
+                             double *tangent, size_t *place);
+
+#ifdef __cplusplus
+}
+#endif
+
+#endif
