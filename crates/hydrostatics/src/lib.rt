@@ -8,14 +8,13 @@ ghost use Prim.Native.Nat.{_<_, _≤_, _^_};
 ghost use lib.Ieee as Ieee;
 ghost use lib.Ieee.{binary64};
 ghost use lib.IntN.{pos};
-ghost use lib.ListN.{getD};
-ghost use Rattle.ranges.specs.Fields.{_to_, within};
 ghost use Rattle.ranges.specs.Outside.{firstOutside};
 ghost use Rattle.hydrostatics.specs.Display.{paper, figuresOf, displayOf};
 ghost use Rattle.hydrostatics.specs.Promise.{MakesRows};
 ghost use Rattle.hydrostatics.specs.Row.{numbersOf, rowRanges};
 use ranges::Particulars;
 use ranges::Refusal;
+use ranges::is_between;
 use table::fill_rows;
 use table::refused;
 
@@ -83,56 +82,40 @@ pub fn make_rows(half_breadths: &[u64], p: Particulars, rows: &mut [u64]) -> Row
     fill_rows(half_breadths, p, rows)
 }
 
-// The range of each number of a row: its least and its greatest.
-const LEAST: [u64; 7] = [20, 1, 0, 0, 0, 0, 0];
-
-const GREATEST: [u64; 7] = [
-    10_000, // draft
-    17_600_000, // displacement
-    100_000, // LCB
-    10_000, // KB
-    100_000, // BM
-    100_000, // KM
-    1_600_000_000, // area
-];
+// No metacentre may be above this, in mm.
+const HIGHEST_METACENTRE: u64 = 100_000;
 
 // A metre in mm, which is also a tonne in kg, and a square metre in mm².
 const METRE: f64 = 1_000.0;
 
 const SQUARE_METRE: f64 = 1_000_000.0;
 
-// Whether a number is in the range of place i of a row.
-fn in_range(i: usize, n: u64) -> bool
-    requires { ⌜ i < 7 ⌝ }
-    ensures { λ r. ⌜ r ≡ within (getD rowRanges i (1 to 0)) (pos n) ⌝ }
-{
-    if n < LEAST[i] {
-        return false;
-    }
-    n <= GREATEST[i]
-}
-
 // The place of the first number of a row out of range, or 7.
 pub fn row_outside(row: Row) -> usize
     ensures { λ r. ⌜ r ≡ firstOutside rowRanges (map pos (numbersOf row)) ⌝ }
 {
-    let numbers = [
-        row.draft,
-        row.displacement,
-        row.lcb,
-        row.kb,
-        row.bm,
-        row.km,
-        row.area,
-    ];
-    let mut i: usize = 0;
-    while i < ROW_WIDTH {
-        if !in_range(i, numbers[i]) {
-            return i;
-        }
-        i += 1;
+    if !is_between(row.draft, 20, 10_000) {
+        return 0;
     }
-    i
+    if !is_between(row.displacement, 1, 17_600_000) {
+        return 1;
+    }
+    if !is_between(row.lcb, 0, 100_000) {
+        return 2;
+    }
+    if !is_between(row.kb, 0, 10_000) {
+        return 3;
+    }
+    if !is_between(row.bm, 0, 100_000) {
+        return 4;
+    }
+    if !is_between(row.km, 0, HIGHEST_METACENTRE) {
+        return 5;
+    }
+    if !is_between(row.area, 0, 1_600_000_000) {
+        return 6;
+    }
+    ROW_WIDTH
 }
 
 // n over a unit: one division, of a whole number that is converted exactly.

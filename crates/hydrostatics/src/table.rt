@@ -9,6 +9,7 @@ ghost use Rattle.hydrostatics.specs.Promise.{paper};
 ghost use Rattle.hydrostatics.specs.Row.{rowAt, numbersOf};
 ghost use Rattle.hydrostatics.specs.Table.{noRow, numbersUpTo, TriedRows, FillsRows};
 ghost use Rattle.hydrostatics.specs.Waterplanes.{InRange, Given, Kept, SumsOf, SumsWithin};
+use crate::HIGHEST_METACENTRE;
 use crate::MOST_ROWS;
 use crate::ROW_WIDTH;
 use crate::Row;
@@ -37,9 +38,6 @@ const NO_ROW: Row = Row {
     km: 0,
     area: 0,
 };
-
-// No metacentre may be above this, in mm.
-const HIGHEST_METACENTRE: u64 = 100_000;
 
 // Both sides of a hull hold 2·s·d·S/24² mm³, and a cubic metre is 10⁹ mm³: s·d·S·density is so many times the displacement.
 const VOLUME_UNITS: u64 = 288_000_000_000;

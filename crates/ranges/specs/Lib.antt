@@ -6,3 +6,5 @@ pub mod Sizes
 pub mod Outside
 pub mod InRange
 pub mod Sides
+-- words of private contracts
+pub mod Bounds

@@ -4,7 +4,8 @@ ghost use mathlib.Core.List.{map};
 ghost use lib.IntN.{pos};
 ghost use lib.ListN.{take, drop};
 ghost use Prim.Native.Nat.{_+_, _<_, _≤_};
-ghost use Rattle.ranges.specs.Fields.{within, rangeOf, fields, particulars, halfBreadth, item, tank};
+ghost use Rattle.ranges.specs.Bounds.{boundsOf};
+ghost use Rattle.ranges.specs.Fields.{_to_, ±_, within, rangeOf, fields, particulars, halfBreadth, item, tank};
 ghost use Rattle.ranges.specs.Outside.{fieldAfter, firstOutside, numbersOf};
 ghost use Rattle.ranges.specs.Sides.{sidesOf};
 ghost use Rattle.ranges.specs.Sizes.{wholeRecords, mostItems, mostTanks};
@@ -86,8 +87,6 @@ pub const ITEM: usize = 6;
 
 pub const TANK: usize = 10;
 
-const FIELDS: usize = 18;
-
 // The most bytes of a file.
 pub const LONGEST_FILE: usize = 16_384;
 
@@ -109,44 +108,76 @@ pub const ITEM_ROOM: usize = 128;
 
 pub const TANK_ROOM: usize = 128;
 
-// The range of each field: its least number from 0 on, and its greatest.
-const LEAST: [u64; 18] = [2, 3, 50, 10, 900, 0, 0, 0, 0, 0, 0, 1, 0, 0, 0, 1, 1, 1];
+// The range of a field: its least number from 0 on, its greatest, and whether it reaches as far below 0.
+struct Bounds {
+    least: u64,
+    greatest: u64,
+    signed: bool,
+}
 
-const GREATEST: [u64; 18] = [
-    40, // n
-    20, // m
-    2_500, // s
-    500, // d
-    1_100, // density
-    8_000, // half-breadth
-    300_000, // item: kg
-    100_000, // x
-    10_000, // y
-    30_000, // z
-    400_000, // tank: contents
-    400_000, // capacity
-    100_000, // x
-    10_000, // y
-    30_000, // z
-    10_000, // length
-    8_000, // breadth
-    1_500, // liquid density
-];
+fn from_to(least: u64, greatest: u64) -> Bounds
+    ensures { λ r. ⌜ r ≡ boundsOf (least to greatest) ⌝ }
+{
+    Bounds {
+        least,
+        greatest,
+        signed: false,
+    }
+}
 
-// 1 for a field that may be below 0, as far as above: the two y.
-const SIGNED: [u64; 18] = [0, 0, 0, 0, 0, 0, 0, 0, 1, 0, 0, 0, 0, 1, 0, 0, 0, 0];
+fn either_side(greatest: u64) -> Bounds
+    ensures { λ r. ⌜ r ≡ boundsOf (± greatest) ⌝ }
+{
+    Bounds {
+        least: 0,
+        greatest,
+        signed: true,
+    }
+}
+
+// The range of a field by its number. No number is in the range of a field that there is not.
+fn bounds_of(field: usize) -> Bounds
+    ensures { λ r. ⌜ r ≡ boundsOf (rangeOf field) ⌝ }
+{
+    match field {
+        0 => from_to(2, 40), // n
+        1 => from_to(3, 20), // m
+        2 => from_to(50, 2_500), // s
+        3 => from_to(10, 500), // d
+        4 => from_to(900, 1_100), // density
+        5 => from_to(0, 8_000), // half-breadth
+        6 => from_to(0, 300_000), // item: kg
+        7 => from_to(0, 100_000), // x
+        8 => either_side(10_000), // y
+        9 => from_to(0, 30_000), // z
+        10 => from_to(0, 400_000), // tank: contents
+        11 => from_to(1, 400_000), // capacity
+        12 => from_to(0, 100_000), // x
+        13 => either_side(10_000), // y
+        14 => from_to(0, 30_000), // z
+        15 => from_to(1, 10_000), // length
+        16 => from_to(1, 8_000), // breadth
+        17 => from_to(1, 1_500), // liquid density
+        _ => from_to(1, 0),
+    }
+}
+
+// Whether a number lies from least to greatest, both in.
+pub fn is_between(n: u64, least: u64, greatest: u64) -> bool
+    ensures { λ r. ⌜ r ≡ within (least to greatest) (pos n) ⌝ }
+{
+    if n < least {
+        return false;
+    }
+    n <= greatest
+}
 
 // Whether a whole number is in a field's range.
 pub fn whole_in_range(field: usize, n: u64) -> bool
     ensures { λ r. ⌜ r ≡ within (rangeOf field) (pos n) ⌝ }
 {
-    if FIELDS <= field {
-        return false;
-    }
-    if n < LEAST[field] {
-        return false;
-    }
-    n <= GREATEST[field]
+    let bounds = bounds_of(field);
+    is_between(n, bounds.least, bounds.greatest)
 }
 
 // Whether a number of either sign is in a field's range.
@@ -155,13 +186,11 @@ pub fn in_range(field: usize, v: i64) -> bool
 {
     let size = arithmetic::magnitude(v);
     if arithmetic::is_negative(v) {
-        if FIELDS <= field {
-            return false;
+        let bounds = bounds_of(field);
+        if bounds.signed {
+            return size <= bounds.greatest;
         }
-        if SIGNED[field] == 0 {
-            return false;
-        }
-        return size <= GREATEST[field];
+        return false;
     }
     whole_in_range(field, size)
 }

@@ -1,59 +1,105 @@
--- The walk: what is left of the row from place i on has the first number out of range where the whole row has it. Assumes nothing.
-use Prim.Native.Nat.{_-_, _≤_}
-use mathlib.Core.Path.{refl, sym, _∙_}
-use native.Mathlib.Omega.{arith}
+-- Each number of a row is tried in turn. Assumes nothing.
+use mathlib.Core.Path.{_≡_, sym, _∙_}
+use mathlib.Core.Bool.{true}
+use borrow.Author.Needs.{needs}
 use borrow.Author.Tests.{not-true, not-false}
-use Rattle.hydrostatics.proofs.InRows.{Walked, walked-none, walked-more, walked-out, walked-all}
+use lib.IntN.{pos}
+use Rattle.arithmetic.proofs.Choice.{chosen}
+use Rattle.ranges.specs.Fields.{_to_, within}
+use Rattle.ranges.specs.Outside.{firstOutside, outsideFrom}
 use Rattle.hydrostatics.proofs.row_outside.Statement.{statement}
 use Rattle.hydrostatics.proofs.row_outside.Tie as tie
 
-abbrev Inv-loop : tie.InvT-loop
-Inv-loop numbers i₀ i = (i ≤ 7) × Walked numbers i
+in1 : (c : tie.Else1) → within (20 to 10_000) (pos (c .before .before .args .row .draft)) ≡ true
+in1 c = sym (c .before .is-between .ensures) ∙ not-false _ (c .if1 .left)
 
-abbrev μ-loop : tie.MeasureT-loop
-μ-loop numbers i₀ i = 7 - i
+in2 : (c : tie.Else2) → within (1 to 17_600_000) (pos (c .before .before .before .before .args .row .displacement)) ≡ true
+in2 c = sym (c .before .is-between2 .ensures) ∙ not-false _ (c .if2 .left)
 
-loop-holds : tie.Need-loop-holds Inv-loop μ-loop
-loop-holds c = (omega arith, walked-none refl)
+in3 : (c : tie.Else3) → within (0 to 100_000) (pos (c .before .before .before .before .before .before .args .row .lcb)) ≡ true
+in3 c = sym (c .before .is-between3 .ensures) ∙ not-false _ (c .if3 .left)
 
-mul-in-range : tie.Need-mul-in-range Inv-loop μ-loop
-mul-in-range c = omega arith
+in4 : (c : tie.Else4) → within (0 to 10_000) (pos (c .before .before .before .before .before .before .before .before .args .row .kb)) ≡ true
+in4 c = sym (c .before .is-between4 .ensures) ∙ not-false _ (c .if4 .left)
 
-array-read-in-range : tie.Need-array-read-in-range Inv-loop μ-loop
-array-read-in-range c = omega arith
+in5 : (c : tie.Else5) → within (0 to 100_000) (pos (c .before .before .before .before .before .before .before .before .before .before .args .row .bm)) ≡ true
+in5 c = sym (c .before .is-between5 .ensures) ∙ not-false _ (c .if5 .left)
 
-in-range-requires : tie.Need-in-range-requires Inv-loop μ-loop
-in-range-requires c κs = c .loop-test .taken
+in6 : (c : tie.Else6) → within (0 to 100_000) (pos (c .before .before .before .before .before .before .before .before .before .before .before .before .args .row .km)) ≡ true
+in6 c = sym (c .before .is-between6 .ensures) ∙ not-false _ (c .if6 .left)
 
-returns : tie.Need-returns Inv-loop μ-loop
-returns c =
-    walked-out (c .before .before .before .loop .inv .1) (c .before .before .loop-test .taken) (sym (c .before .in-range .ensures) ∙ not-true _ (c .if1 .taken))
+in7 : (c : tie.Else7) → within (0 to 1_600_000_000) (pos (c .before .before .before .before .before .before .before .before .before .before .before .before .before .before .args .row .area)) ≡ true
+in7 c = sym (c .before .is-between7 .ensures) ∙ not-false _ (c .if7 .left)
 
-add-i : tie.Need-add-i Inv-loop μ-loop
-add-i c = omega arith
+is-between-requires : tie.Need-is-between-requires
+is-between-requires c κs = search needs
 
-loop-less : tie.Need-loop-less Inv-loop μ-loop
-loop-less c = omega arith
+returns : tie.Need-returns
+unfolding firstOutside outsideFrom
+returns c = simp (sym (c .before .is-between .ensures) ∙ not-true _ (c .if1 .taken), chosen)
 
-loop-again : tie.Need-loop-again Inv-loop μ-loop
-loop-again c =
-    (omega arith, walked-more (c .before .before .before .loop .inv .1) (c .before .before .loop-test .taken) (sym (c .before .in-range .ensures) ∙ not-false _ (c .if1 .left)))
+is-between-requires-2 : tie.Need-is-between-requires-2
+is-between-requires-2 c κs = search needs
 
-returns-2 : tie.Need-returns-2 Inv-loop μ-loop
-returns-2 c = walked-all (c .before .loop .inv .1) (c .loop-test .left)
+returns-2 : tie.Need-returns-2
+unfolding firstOutside outsideFrom
+returns-2 c = simp (in1 (c .before .before), sym (c .before .is-between2 .ensures) ∙ not-true _ (c .if2 .taken), chosen)
+
+is-between-requires-3 : tie.Need-is-between-requires-3
+is-between-requires-3 c κs = search needs
+
+returns-3 : tie.Need-returns-3
+unfolding firstOutside outsideFrom
+returns-3 c = simp (in1 (c .before .before .before .before), in2 (c .before .before), sym (c .before .is-between3 .ensures) ∙ not-true _ (c .if3 .taken), chosen)
+
+is-between-requires-4 : tie.Need-is-between-requires-4
+is-between-requires-4 c κs = search needs
+
+returns-4 : tie.Need-returns-4
+unfolding firstOutside outsideFrom
+returns-4 c = simp (in1 (c .before .before .before .before .before .before), in2 (c .before .before .before .before), in3 (c .before .before), sym (c .before .is-between4 .ensures) ∙ not-true _ (c .if4 .taken), chosen)
+
+is-between-requires-5 : tie.Need-is-between-requires-5
+is-between-requires-5 c κs = search needs
+
+returns-5 : tie.Need-returns-5
+unfolding firstOutside outsideFrom
+returns-5 c = simp (in1 (c .before .before .before .before .before .before .before .before), in2 (c .before .before .before .before .before .before), in3 (c .before .before .before .before), in4 (c .before .before), sym (c .before .is-between5 .ensures) ∙ not-true _ (c .if5 .taken), chosen)
+
+is-between-requires-6 : tie.Need-is-between-requires-6
+is-between-requires-6 c κs = search needs
+
+returns-6 : tie.Need-returns-6
+unfolding firstOutside outsideFrom
+returns-6 c = simp (in1 (c .before .before .before .before .before .before .before .before .before .before), in2 (c .before .before .before .before .before .before .before .before), in3 (c .before .before .before .before .before .before), in4 (c .before .before .before .before), in5 (c .before .before), sym (c .before .is-between6 .ensures) ∙ not-true _ (c .if6 .taken), chosen)
+
+is-between-requires-7 : tie.Need-is-between-requires-7
+is-between-requires-7 c κs = search needs
+
+returns-7 : tie.Need-returns-7
+unfolding firstOutside outsideFrom
+returns-7 c = simp (in1 (c .before .before .before .before .before .before .before .before .before .before .before .before), in2 (c .before .before .before .before .before .before .before .before .before .before), in3 (c .before .before .before .before .before .before .before .before), in4 (c .before .before .before .before .before .before), in5 (c .before .before .before .before), in6 (c .before .before), sym (c .before .is-between7 .ensures) ∙ not-true _ (c .if7 .taken), chosen)
+
+returns-8 : tie.Need-returns-8
+unfolding firstOutside outsideFrom
+returns-8 c = simp (in1 (c .before .before .before .before .before .before .before .before .before .before .before .before), in2 (c .before .before .before .before .before .before .before .before .before .before), in3 (c .before .before .before .before .before .before .before .before), in4 (c .before .before .before .before .before .before), in5 (c .before .before .before .before), in6 (c .before .before), in7 c, chosen)
 
 pub row-outside-spec : {M : Type 1} → statement M
 row-outside-spec =
     tie.close
     (tie.spec
-    Inv-loop
-    μ-loop
-    loop-holds
-    mul-in-range
-    array-read-in-range
-    in-range-requires
+    is-between-requires
     returns
-    add-i
-    loop-less
-    loop-again
-    returns-2)
+    is-between-requires-2
+    returns-2
+    is-between-requires-3
+    returns-3
+    is-between-requires-4
+    returns-4
+    is-between-requires-5
+    returns-5
+    is-between-requires-6
+    returns-6
+    is-between-requires-7
+    returns-7
+    returns-8)
