@@ -57,7 +57,7 @@ pub const ROW_WIDTH: usize = 7;
 
 pub const MOST_ROWS: usize = 19;
 
-pub const ROW_ROOM: usize = 133;
+pub const ROW_ROOM: usize = ROW_WIDTH * MOST_ROWS;
 
 // The rows of a hull into the lent table.
 pub fn make_rows(half_breadths: &[u64], p: Particulars, rows: &mut [u64]) -> Rows

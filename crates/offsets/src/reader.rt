@@ -68,10 +68,10 @@ fn read_sized(text: &[u8], half_breadths: &mut [u64], items: &mut [i64], tanks: 
     requires { ⌜ Sized (now text) (now «half_breadths») (now items) (now tanks) ⌝ }
     ensures { λ r. ⌜ Reads (now (text .entry)) (now («half_breadths» .entry)) (now («half_breadths» .exit)) (now (items .entry)) (now (items .exit)) (now (tanks .entry)) (now (tanks .exit)) r ⌝ }
 {
-    let mut hull = [0i64; 5];
-    let mut points_read = [0i64; 861];
-    let mut items_read = [0i64; 128];
-    let mut tanks_read = [0i64; 128];
+    let mut hull = [0i64; PARTICULAR_COUNT];
+    let mut points_read = [0i64; ranges::HALF_BREADTH_ROOM];
+    let mut items_read = [0i64; ranges::ITEM_ROOM];
+    let mut tanks_read = [0i64; ranges::TANK_ROOM];
     match parse(
         text,
         &mut hull,

@@ -104,9 +104,9 @@ pub const MOST_TANKS: usize = 16;
 // The room that holds the numbers of any file.
 pub const HALF_BREADTH_ROOM: usize = 861;
 
-pub const ITEM_ROOM: usize = 128;
+pub const ITEM_ROOM: usize = ITEM_WIDTH * MOST_ITEMS;
 
-pub const TANK_ROOM: usize = 128;
+pub const TANK_ROOM: usize = TANK_WIDTH * MOST_TANKS;
 
 // The range of a field: its least number from 0 on, its greatest, and whether it reaches as far below 0.
 struct Bounds {

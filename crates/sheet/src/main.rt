@@ -3,8 +3,8 @@ use libc::STDIN_FILENO;
 use libc::STDOUT_FILENO;
 use report::Report;
 
-// One byte more than a file may have: a longer text is refused alike, whatever follows.
-const LONGEST_INPUT: usize = 16_385;
+// One byte more than a file may have. A longer text has the same sheet, whatever follows (report, proofs/Cut).
+const LONGEST_INPUT: usize = ranges::LONGEST_FILE + 1;
 
 fn main() {
     let mut input = [0u8; LONGEST_INPUT];

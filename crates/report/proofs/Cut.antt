@@ -1,0 +1,33 @@
+-- A program need not read past the first byte that no file may have.
+--     long-said        a text that is too long has the one E line
+--     cut-alike        a text cut after so many bytes has the same sheet as the whole
+-- Assumes nothing.
+use Prim.Native.Nat.{ℕ, suc, _≤_, _<_}
+use mathlib.Core.Path.{_≡_, refl, ap, sym, _∙_}
+use mathlib.Core.Bool.{Bool, true, false}
+use mathlib.Core.List.{List}
+use native.Mathlib.Omega.{arith}
+use borrow.Author.Tests.{lt-ltb, ltb-true, ltb-false}
+use lib.Dec.{ltb}
+use lib.ListN.{length, take}
+use lib.Seq.{take-all, length-take-le}
+use Rattle.arithmetic.proofs.Choice.{chosen}
+use Rattle.offsets.specs.Reader.{readerOf}
+use Rattle.ranges.specs.Refusals.{fileTooLong}
+use Rattle.ranges.specs.Sizes.{longestFile, roomForHalfBreadths, roomForItems, roomForTanks}
+use Rattle.report.specs.Lines.{refusalLine}
+use Rattle.report.specs.Sheet.{fileSaid, sheetOf}
+
+pub long-said : (text : List ℕ) → longestFile < length text → sheetOf text ≡ refusalLine fileTooLong longestFile
+unfolding sheetOf fileSaid readerOf
+long-said text long = simp (lt-ltb longestFile (length text) long, chosen)
+
+pub cut-alike : (text : List ℕ) → sheetOf (take (suc longestFile) text) ≡ sheetOf text
+cut-alike text = by-length (ltb longestFile (length text)) refl
+  where
+    by-length : (long : Bool) → ltb longestFile (length text) ≡ long → sheetOf (take (suc longestFile) text) ≡ sheetOf text
+    by-length true e =
+        let whole : longestFile < length text = ltb-true _ _ e in
+        let front : length (take (suc longestFile) text) ≡ suc longestFile = length-take-le (suc longestFile) text (omega (arith, whole)) in
+        long-said (take (suc longestFile) text) (omega (arith, front)) ∙ sym (long-said text whole)
+    by-length false e = ap sheetOf (take-all (suc longestFile) text (omega (arith, ltb-false longestFile (length text) e)))
