@@ -184,15 +184,14 @@ pub fn whole_in_range(field: usize, n: u64) -> bool
 pub fn in_range(field: usize, v: i64) -> bool
     ensures { λ r. ⌜ r ≡ within (rangeOf field) v ⌝ }
 {
-    let size = arithmetic::magnitude(v);
     if arithmetic::is_negative(v) {
         let bounds = bounds_of(field);
         if bounds.signed {
-            return size <= bounds.greatest;
+            return arithmetic::magnitude(v) <= bounds.greatest;
         }
         return false;
     }
-    whole_in_range(field, size)
+    whole_in_range(field, arithmetic::magnitude(v))
 }
 
 // y's two sides.

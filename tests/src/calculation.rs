@@ -1,0 +1,52 @@
+//! A calculation as the tests see it: the paper's calls by name, the library's or the own ones.
+
+#[cfg(linked)]
+use crate::calls;
+use crate::calls::{Condition, Refusal, Summary};
+use crate::peer;
+
+type Report = fn(&[u8], &mut [u8]) -> Result<usize, Refusal>;
+type Read = fn(&[u8], &mut [u64], &mut [i64], &mut [i64]) -> Result<Summary, Refusal>;
+type Write = fn(&[u64; 5], &[u64], &[i64], &[i64], &mut [u8]) -> Result<usize, Refusal>;
+type Rows = fn(&[u64], &[u64; 5], &mut [u64]) -> Result<usize, Refusal>;
+type Display = fn(&[u64; 7]) -> Result<[f64; 7], Refusal>;
+type Answer = fn(&[i64], &[i64], &[u64]) -> Result<Condition, Refusal>;
+
+/// One calculation's calls. They are called through pointers, so that neither is drawn into the loop that times it.
+pub struct Calculation {
+    pub name: &'static str,
+    pub report: Report,
+    pub read: Read,
+    pub write: Write,
+    pub rows: Rows,
+    pub display: Display,
+    pub condition: Answer,
+}
+
+pub const PEER: Calculation = Calculation {
+    name: "peer",
+    report: peer::report,
+    read: peer::read,
+    write: peer::write,
+    rows: peer::rows,
+    display: peer::display,
+    condition: peer::condition,
+};
+
+#[cfg(linked)]
+pub const LIBRARY: Calculation = Calculation {
+    name: "library",
+    report: calls::report,
+    read: calls::read,
+    write: calls::write,
+    rows: calls::rows,
+    display: calls::display,
+    condition: calls::condition,
+};
+
+/// What is to be tested: the own calculation, and the library's where it is linked.
+pub const CALCULATIONS: &[Calculation] = &[
+    #[cfg(linked)]
+    LIBRARY,
+    PEER,
+];

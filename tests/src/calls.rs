@@ -1,0 +1,237 @@
+//! Rugulosca for Rust: the six calls of `include/rugulosca.h` over slices, with a refusal as the error.
+//!
+//! This file stands alone: a program that links `librugulosca.a` can take it as it is. Nothing is allocated or kept,
+//! and no call has a condition on its numbers, lengths or bytes.
+
+/// A call that was refused: the refusal's number, 1 to 14, and the place it names. Nothing lent was written.
+#[derive(Clone, Copy, Debug, PartialEq, Eq)]
+pub struct Refusal {
+    pub number: u64,
+    pub place: usize,
+}
+
+/// What a read file says besides its tables. The counts are of records.
+#[derive(Clone, Copy, Debug, PartialEq, Eq)]
+pub struct Summary {
+    pub particulars: [u64; 5],
+    pub items: u64,
+    pub tanks: u64,
+}
+
+/// How the vessel lies; heeled carries the tangent of the angle.
+#[derive(Clone, Copy, Debug, PartialEq)]
+pub enum Heel {
+    Unstable,
+    Upright,
+    Heeled(f64),
+    Beyond,
+}
+
+/// A loading condition in kg, mm and kg·mm.
+#[derive(Clone, Copy, Debug, PartialEq)]
+pub struct Condition {
+    pub weight: u64,
+    pub draft: u64,
+    pub km: u64,
+    pub lcg: u64,
+    pub vertical_moment: u64,
+    pub free_surface: u64,
+    pub gm: i64,
+    pub transverse_moment: i64,
+    pub heel: Heel,
+    pub passes: bool,
+}
+
+/// The header's declarations, for those who want the numbers as C sees them.
+pub mod raw {
+    extern "C" {
+        pub fn rugulosca_report(
+            text: *const u8,
+            text_length: usize,
+            room: *mut u8,
+            room_length: usize,
+            count: *mut usize,
+            place: *mut usize,
+        ) -> u64;
+
+        pub fn rugulosca_read(
+            text: *const u8,
+            text_length: usize,
+            half_breadths: *mut u64,
+            half_breadths_length: usize,
+            items: *mut i64,
+            items_length: usize,
+            tanks: *mut i64,
+            tanks_length: usize,
+            summary: *mut [u64; 7],
+            place: *mut usize,
+        ) -> u64;
+
+        pub fn rugulosca_write(
+            particulars: *const [u64; 5],
+            half_breadths: *const u64,
+            half_breadths_length: usize,
+            items: *const i64,
+            items_length: usize,
+            tanks: *const i64,
+            tanks_length: usize,
+            room: *mut u8,
+            room_length: usize,
+            count: *mut usize,
+            place: *mut usize,
+        ) -> u64;
+
+        pub fn rugulosca_rows(
+            half_breadths: *const u64,
+            half_breadths_length: usize,
+            particulars: *const [u64; 5],
+            rows: *mut u64,
+            rows_length: usize,
+            count: *mut usize,
+            place: *mut usize,
+        ) -> u64;
+
+        pub fn rugulosca_display(row: *const [u64; 7], figures: *mut [f64; 7], place: *mut usize) -> u64;
+
+        pub fn rugulosca_condition(
+            items: *const i64,
+            items_length: usize,
+            tanks: *const i64,
+            tanks_length: usize,
+            rows: *const u64,
+            rows_length: usize,
+            wholes: *mut [u64; 8],
+            signed_numbers: *mut [i64; 2],
+            tangent: *mut f64,
+            place: *mut usize,
+        ) -> u64;
+    }
+}
+
+/// From a file's text to the sheet's lines; answers the bytes of the sheet.
+pub fn report(text: &[u8], room: &mut [u8]) -> Result<usize, Refusal> {
+    let (mut count, mut place) = (0, 0);
+    // SAFETY: each pointer comes from a live slice with its length, and the borrows keep them apart.
+    let number = unsafe {
+        raw::rugulosca_report(text.as_ptr(), text.len(), room.as_mut_ptr(), room.len(), &mut count, &mut place)
+    };
+    answer(number, place, count)
+}
+
+/// Reads an offset file into the lent tables.
+pub fn read(text: &[u8], half_breadths: &mut [u64], items: &mut [i64], tanks: &mut [i64]) -> Result<Summary, Refusal> {
+    let (mut summary, mut place) = ([0; 7], 0);
+    // SAFETY: as in `report`.
+    let number = unsafe {
+        raw::rugulosca_read(
+            text.as_ptr(),
+            text.len(),
+            half_breadths.as_mut_ptr(),
+            half_breadths.len(),
+            items.as_mut_ptr(),
+            items.len(),
+            tanks.as_mut_ptr(),
+            tanks.len(),
+            &mut summary,
+            &mut place,
+        )
+    };
+    let [n, m, s, d, density, items, tanks] = summary;
+    answer(number, place, Summary { particulars: [n, m, s, d, density], items, tanks })
+}
+
+/// Writes an offset file into the lent room; answers the bytes of its text.
+pub fn write(
+    particulars: &[u64; 5],
+    half_breadths: &[u64],
+    items: &[i64],
+    tanks: &[i64],
+    room: &mut [u8],
+) -> Result<usize, Refusal> {
+    let (mut count, mut place) = (0, 0);
+    // SAFETY: as in `report`.
+    let number = unsafe {
+        raw::rugulosca_write(
+            particulars,
+            half_breadths.as_ptr(),
+            half_breadths.len(),
+            items.as_ptr(),
+            items.len(),
+            tanks.as_ptr(),
+            tanks.len(),
+            room.as_mut_ptr(),
+            room.len(),
+            &mut count,
+            &mut place,
+        )
+    };
+    answer(number, place, count)
+}
+
+/// The rows of a hull into the lent table, seven numbers each; answers how many rows.
+pub fn rows(half_breadths: &[u64], particulars: &[u64; 5], rows: &mut [u64]) -> Result<usize, Refusal> {
+    let (mut count, mut place) = (0, 0);
+    // SAFETY: as in `report`.
+    let number = unsafe {
+        raw::rugulosca_rows(
+            half_breadths.as_ptr(),
+            half_breadths.len(),
+            particulars,
+            rows.as_mut_ptr(),
+            rows.len(),
+            &mut count,
+            &mut place,
+        )
+    };
+    answer(number, place, count)
+}
+
+/// One row in metres, tonnes and square metres.
+pub fn display(row: &[u64; 7]) -> Result<[f64; 7], Refusal> {
+    let (mut figures, mut place) = ([0.0; 7], 0);
+    // SAFETY: as in `report`.
+    let number = unsafe { raw::rugulosca_display(row, &mut figures, &mut place) };
+    answer(number, place, figures)
+}
+
+/// The loading condition of items and tanks over a table of rows.
+pub fn condition(items: &[i64], tanks: &[i64], rows: &[u64]) -> Result<Condition, Refusal> {
+    let (mut wholes, mut signed_numbers, mut tangent, mut place) = ([0; 8], [0; 2], 0.0, 0);
+    // SAFETY: as in `report`.
+    let number = unsafe {
+        raw::rugulosca_condition(
+            items.as_ptr(),
+            items.len(),
+            tanks.as_ptr(),
+            tanks.len(),
+            rows.as_ptr(),
+            rows.len(),
+            &mut wholes,
+            &mut signed_numbers,
+            &mut tangent,
+            &mut place,
+        )
+    };
+    answer(number, place, condition_of(wholes, signed_numbers, tangent))
+}
+
+/// The answer where the number is 0, and the refusal otherwise.
+fn answer<T>(number: u64, place: usize, value: T) -> Result<T, Refusal> {
+    match number {
+        0 => Ok(value),
+        _ => Err(Refusal { number, place }),
+    }
+}
+
+/// The record of a condition from the header's three groups of numbers.
+fn condition_of(wholes: [u64; 8], signed_numbers: [i64; 2], tangent: f64) -> Condition {
+    let [weight, draft, km, lcg, vertical_moment, free_surface, lies, pass] = wholes;
+    let [gm, transverse_moment] = signed_numbers;
+    let heel = match lies {
+        0 => Heel::Unstable,
+        1 => Heel::Upright,
+        2 => Heel::Heeled(tangent),
+        _ => Heel::Beyond,
+    };
+    Condition { weight, draft, km, lcg, vertical_moment, free_surface, gm, transverse_moment, heel, passes: pass == 1 }
+}

@@ -1,0 +1,246 @@
+//! All that can be seen of a call: its number, place and values, and every lent table and room afterwards.
+
+use crate::calculation::Calculation;
+use crate::calls::{raw, Condition, Heel, Refusal};
+use crate::generate::{pattern, Case, FileNumbers};
+
+/// The numbers a call answers with, floats by their bits: at most the eleven of a condition.
+type Values = [u64; 11];
+/// Where a condition's signed numbers and its tangent stand among its values.
+const GM: usize = 8;
+const TRANSVERSE_MOMENT: usize = 9;
+const TANGENT: usize = 10;
+
+#[derive(Clone, Debug, PartialEq)]
+pub struct Observation {
+    pub number: u64,
+    pub place: usize,
+    pub values: Values,
+    /// The room of a sheet or of a file.
+    pub room: Vec<u8>,
+    /// Half-breadths that are read, or rows.
+    pub wholes: Vec<u64>,
+    pub items: Vec<i64>,
+    pub tanks: Vec<i64>,
+}
+
+impl Observation {
+    /// What a case lends for writing, filled with a pattern that shows what stays.
+    pub fn before(case: &Case) -> Observation {
+        let (room, wholes, [items, tanks]) = match *case {
+            Case::Report { room, .. } | Case::Write { room, .. } => (room, 0, [0, 0]),
+            Case::Read { rooms: [half_breadths, items, tanks], .. } => (0, half_breadths, [items, tanks]),
+            Case::Rows { room, .. } => (0, room, [0, 0]),
+            Case::Display { .. } | Case::Condition { .. } => (0, 0, [0, 0]),
+        };
+        Observation {
+            number: 0,
+            place: pattern(0) as usize,
+            values: std::array::from_fn(pattern),
+            room: (0..room).map(|i| pattern(i) as u8).collect(),
+            wholes: (0..wholes).map(pattern).collect(),
+            items: (0..items).map(|i| pattern(i) as i64).collect(),
+            tanks: (0..tanks).map(|i| pattern(i) as i64).collect(),
+        }
+    }
+
+    /// The case through the header's own calls.
+    pub fn by_library(mut self, case: &Case) -> Observation {
+        self.number = match case {
+            Case::Report { text, .. } => self.raw_report(text),
+            Case::Read { text, .. } => self.raw_read(text),
+            Case::Write { numbers, .. } => self.raw_write(numbers),
+            Case::Rows { particulars, half_breadths, .. } => self.raw_rows(particulars, half_breadths),
+            Case::Display { row } => self.raw_display(row),
+            Case::Condition { items, tanks, rows } => self.raw_condition(items, tanks, rows),
+        };
+        self
+    }
+
+    fn raw_report(&mut self, text: &[u8]) -> u64 {
+        let (room, length) = (self.room.as_mut_ptr(), self.room.len());
+        let mut written = self.values[0] as usize;
+        // SAFETY, here and below: every pointer comes from a live slice, vector or array with its length.
+        let number =
+            unsafe { raw::rugulosca_report(text.as_ptr(), text.len(), room, length, &mut written, &mut self.place) };
+        self.values[0] = written as u64;
+        number
+    }
+
+    fn raw_read(&mut self, text: &[u8]) -> u64 {
+        let summary = self.values.first_chunk_mut::<7>().expect("seven of eleven");
+        unsafe {
+            raw::rugulosca_read(
+                text.as_ptr(),
+                text.len(),
+                self.wholes.as_mut_ptr(),
+                self.wholes.len(),
+                self.items.as_mut_ptr(),
+                self.items.len(),
+                self.tanks.as_mut_ptr(),
+                self.tanks.len(),
+                summary,
+                &mut self.place,
+            )
+        }
+    }
+
+    fn raw_write(&mut self, numbers: &FileNumbers) -> u64 {
+        let FileNumbers { particulars, half_breadths, items, tanks } = numbers;
+        let mut written = self.values[0] as usize;
+        let number = unsafe {
+            raw::rugulosca_write(
+                particulars,
+                half_breadths.as_ptr(),
+                half_breadths.len(),
+                items.as_ptr(),
+                items.len(),
+                tanks.as_ptr(),
+                tanks.len(),
+                self.room.as_mut_ptr(),
+                self.room.len(),
+                &mut written,
+                &mut self.place,
+            )
+        };
+        self.values[0] = written as u64;
+        number
+    }
+
+    fn raw_rows(&mut self, particulars: &[u64; 5], half_breadths: &[u64]) -> u64 {
+        let mut count = self.values[0] as usize;
+        let number = unsafe {
+            raw::rugulosca_rows(
+                half_breadths.as_ptr(),
+                half_breadths.len(),
+                particulars,
+                self.wholes.as_mut_ptr(),
+                self.wholes.len(),
+                &mut count,
+                &mut self.place,
+            )
+        };
+        self.values[0] = count as u64;
+        number
+    }
+
+    fn raw_display(&mut self, row: &[u64; 7]) -> u64 {
+        let mut figures = std::array::from_fn(|i| f64::from_bits(self.values[i]));
+        let number = unsafe { raw::rugulosca_display(row, &mut figures, &mut self.place) };
+        self.values[..7].copy_from_slice(&figures.map(f64::to_bits));
+        number
+    }
+
+    fn raw_condition(&mut self, items: &[i64], tanks: &[i64], rows: &[u64]) -> u64 {
+        let mut signed = [self.values[GM] as i64, self.values[TRANSVERSE_MOMENT] as i64];
+        let mut tangent = f64::from_bits(self.values[TANGENT]);
+        let number = unsafe {
+            raw::rugulosca_condition(
+                items.as_ptr(),
+                items.len(),
+                tanks.as_ptr(),
+                tanks.len(),
+                rows.as_ptr(),
+                rows.len(),
+                self.values.first_chunk_mut::<8>().expect("eight of eleven"),
+                &mut signed,
+                &mut tangent,
+                &mut self.place,
+            )
+        };
+        self.values[GM..].copy_from_slice(&[signed[0] as u64, signed[1] as u64, tangent.to_bits()]);
+        number
+    }
+
+    /// The case through a calculation's calls over slices.
+    pub fn by_calculation(mut self, calculation: &Calculation, case: &Case) -> Observation {
+        match case {
+            Case::Report { text, .. } => {
+                let answer = (calculation.report)(text, &mut self.room);
+                self.note(answer, |length, values| values[0] = length as u64);
+            }
+            Case::Read { text, .. } => {
+                let answer = (calculation.read)(text, &mut self.wholes, &mut self.items, &mut self.tanks);
+                self.note(answer, |summary, values| {
+                    values[..5].copy_from_slice(&summary.particulars);
+                    values[5..7].copy_from_slice(&[summary.items, summary.tanks]);
+                });
+            }
+            Case::Write { numbers: FileNumbers { particulars, half_breadths, items, tanks }, .. } => {
+                let answer = (calculation.write)(particulars, half_breadths, items, tanks, &mut self.room);
+                self.note(answer, |length, values| values[0] = length as u64);
+            }
+            Case::Rows { particulars, half_breadths, .. } => {
+                let answer = (calculation.rows)(half_breadths, particulars, &mut self.wholes);
+                self.note(answer, |count, values| values[0] = count as u64);
+            }
+            Case::Display { row } => {
+                let answer = (calculation.display)(row);
+                self.note(answer, |figures, values| values[..7].copy_from_slice(&figures.map(f64::to_bits)));
+            }
+            Case::Condition { items, tanks, rows } => {
+                let answer = (calculation.condition)(items, tanks, rows);
+                self.note(answer, note_condition);
+            }
+        }
+        self
+    }
+
+    /// Notes the values of an answer, or the number and place of a refusal.
+    fn note<T>(&mut self, answer: Result<T, Refusal>, note: impl Fn(T, &mut Values)) {
+        match answer {
+            Ok(value) => note(value, &mut self.values),
+            Err(refusal) => (self.number, self.place) = (refusal.number, refusal.place),
+        }
+    }
+
+    /// Compares two observations of one case.
+    pub fn same_as(&self, peer: &Observation) -> Result<(), String> {
+        let parts = [
+            ("numbers", self.number == peer.number),
+            ("places", self.place == peer.place),
+            ("values", self.values == peer.values),
+            ("rooms", self.room == peer.room),
+            ("half-breadths or rows", self.wholes == peer.wholes),
+            ("items", self.items == peer.items),
+            ("tanks", self.tanks == peer.tanks),
+        ];
+        match parts.iter().find(|(_, same)| !same) {
+            None => Ok(()),
+            Some((part, _)) => Err(format!("the {part} differ\nlibrary: {self:?}\npeer: {peer:?}")),
+        }
+    }
+
+    /// A refusal leaves everything but number and place; an answer leaves the place.
+    pub fn leaves_what_it_must(&self, before: &Observation) -> Result<(), String> {
+        let left = if self.number == 0 {
+            self.place == before.place
+        } else {
+            Observation { number: self.number, place: self.place, ..before.clone() } == *self
+        };
+        if left {
+            Ok(())
+        } else {
+            Err(format!("something that must stay is changed: {self:?}"))
+        }
+    }
+}
+
+/// A condition's values in the header's order; the tangent stays unless the vessel is heeled.
+fn note_condition(condition: Condition, values: &mut Values) {
+    let Condition { weight, draft, km, lcg, vertical_moment, free_surface, gm, transverse_moment, heel, passes } =
+        condition;
+    let lies = match heel {
+        Heel::Unstable => 0,
+        Heel::Upright => 1,
+        Heel::Heeled(_) => 2,
+        Heel::Beyond => 3,
+    };
+    let wholes = [weight, draft, km, lcg, vertical_moment, free_surface, lies, u64::from(passes)];
+    values[..GM].copy_from_slice(&wholes);
+    values[GM] = gm as u64;
+    values[TRANSVERSE_MOMENT] = transverse_moment as u64;
+    if let Heel::Heeled(tangent) = heel {
+        values[TANGENT] = tangent.to_bits();
+    }
+}

@@ -1,0 +1,62 @@
+//! What was written reads back to the same numbers, and what was read and written again does too.
+
+use super::observation::Observation;
+use crate::calculation::{Calculation, CALCULATIONS};
+use crate::generate::{Case, FileNumbers};
+
+const FILE_ROOM: usize = 16_384;
+const HALF_BREADTH_ROOM: usize = 861;
+const RECORD_ROOM: usize = 128;
+
+/// Follows an answered case of reading or writing; other calls have no way back.
+pub fn examine(case: &Case, answered: &Observation) -> Result<(), String> {
+    match case {
+        Case::Write { numbers, .. } => {
+            let text = &answered.room[..answered.values[0] as usize];
+            CALCULATIONS.iter().try_for_each(|reader| reads_back(reader, text, numbers))
+        }
+        Case::Read { .. } => {
+            let numbers = numbers_read(answered);
+            CALCULATIONS.iter().try_for_each(|writer| writes_and_reads_back(writer, &numbers))
+        }
+        _ => Ok(()),
+    }
+}
+
+/// The numbers that a reader left in its tables.
+fn numbers_read(answered: &Observation) -> FileNumbers {
+    let [n, m, s, d, density, items, tanks, ..] = answered.values;
+    FileNumbers {
+        particulars: [n, m, s, d, density],
+        half_breadths: answered.wholes[..((n + 1) * (m + 1)) as usize].to_vec(),
+        items: answered.items[..4 * items as usize].to_vec(),
+        tanks: answered.tanks[..8 * tanks as usize].to_vec(),
+    }
+}
+
+fn writes_and_reads_back(writer: &Calculation, numbers: &FileNumbers) -> Result<(), String> {
+    let FileNumbers { particulars, half_breadths, items, tanks } = numbers;
+    let mut room = [0; FILE_ROOM];
+    match (writer.write)(particulars, half_breadths, items, tanks, &mut room) {
+        Ok(length) => CALCULATIONS.iter().try_for_each(|reader| reads_back(reader, &room[..length], numbers)),
+        Err(refusal) => Err(format!("{} does not write what was read: {refusal:?}", writer.name)),
+    }
+}
+
+fn reads_back(reader: &Calculation, text: &[u8], numbers: &FileNumbers) -> Result<(), String> {
+    let mut half_breadths = [0; HALF_BREADTH_ROOM];
+    let (mut items, mut tanks) = ([0; RECORD_ROOM], [0; RECORD_ROOM]);
+    let summary = (reader.read)(text, &mut half_breadths, &mut items, &mut tanks)
+        .map_err(|refusal| format!("{} does not read what was written: {refusal:?}", reader.name))?;
+    let same = summary.particulars == numbers.particulars
+        && summary.items as usize * 4 == numbers.items.len()
+        && summary.tanks as usize * 8 == numbers.tanks.len()
+        && half_breadths.starts_with(&numbers.half_breadths)
+        && items.starts_with(&numbers.items)
+        && tanks.starts_with(&numbers.tanks);
+    if same {
+        Ok(())
+    } else {
+        Err(format!("{} reads other numbers than were written", reader.name))
+    }
+}

@@ -1,0 +1,186 @@
+//! Cases for the comparison, drawn from a seed: each case depends on the seed and its own number alone.
+
+mod edges;
+mod hulls;
+mod loads;
+mod random;
+mod row_tables;
+mod texts;
+
+use crate::peer;
+use crate::peer::ranges::{HALF_BREADTH, ITEM, PARTICULARS, ROW, TANK};
+use edges::{damage_number, damage_records, damage_size, edge};
+use hulls::Hull;
+use random::{mixed, Random};
+
+/// Rooms that are never too short.
+const SHEET_ROOM: usize = 3_173;
+const FILE_ROOM: usize = 16_384;
+const ROW_ROOM: usize = 133;
+const READ_ROOMS: [usize; 3] = [861, 128, 128];
+
+/// One call with all that is lent to it; rooms by their lengths.
+#[derive(Clone, Debug, PartialEq)]
+pub enum Case {
+    Report { text: Vec<u8>, room: usize },
+    Read { text: Vec<u8>, rooms: [usize; 3] },
+    Write { numbers: FileNumbers, room: usize },
+    Rows { particulars: [u64; 5], half_breadths: Vec<u64>, room: usize },
+    Display { row: [u64; 7] },
+    Condition { items: Vec<i64>, tanks: Vec<i64>, rows: Vec<u64> },
+}
+
+/// The numbers of an offset file.
+#[derive(Clone, Debug, PartialEq)]
+pub struct FileNumbers {
+    pub particulars: [u64; 5],
+    pub half_breadths: Vec<u64>,
+    pub items: Vec<i64>,
+    pub tanks: Vec<i64>,
+}
+
+impl Case {
+    pub fn generate(seed: u64, number: u64) -> Case {
+        let random = &mut Random::for_case(seed, number);
+        match random.below(16) {
+            0..=4 => report(random),
+            5..=7 => read(random),
+            8..=9 => write(random),
+            10..=11 => rows(random),
+            12 => display(random),
+            _ => condition(random),
+        }
+    }
+}
+
+/// What stands at place `i` of a lent table before a call.
+pub fn pattern(i: usize) -> u64 {
+    mixed(!(i as u64)) >> 1
+}
+
+/// How many things are wrong with a case: none, mostly, or one, or more.
+fn damages(random: &mut Random) -> u64 {
+    random.pick(&[0, 0, 0, 0, 1, 1, 1, 2])
+}
+
+/// A file with nothing out of range, mostly loaded so that its condition is near a limit.
+fn file_numbers(random: &mut Random) -> FileNumbers {
+    let Hull { particulars, half_breadths } = hulls::hull(random);
+    let mut table = [0; ROW_ROOM];
+    let (items, tanks) = match peer::rows(&half_breadths, &particulars, &mut table) {
+        Ok(count) => loads::aimed(random, &table[..count * ROW.len()]),
+        Err(_) => loads::any(random),
+    };
+    FileNumbers { particulars, half_breadths, items, tanks }
+}
+
+fn report(random: &mut Random) -> Case {
+    let text = file_text(random);
+    let room = match random.below(16) {
+        0 | 1 => near(random, needed(peer::report(&text, &mut []))),
+        2 if random.one_in(4) => 0,
+        3 => SHEET_ROOM + random.index(100),
+        _ => SHEET_ROOM,
+    };
+    Case::Report { text, room }
+}
+
+fn read(random: &mut Random) -> Case {
+    let text = file_text(random);
+    let mut rooms = READ_ROOMS;
+    for room in &mut rooms {
+        *room = match random.below(32) {
+            0 => *room - 1,
+            1 => random.index(*room),
+            2..=5 => *room + random.index(20),
+            _ => *room,
+        };
+    }
+    Case::Read { text, rooms }
+}
+
+fn file_text(random: &mut Random) -> Vec<u8> {
+    let numbers = file_numbers(random);
+    let damages = damages(random);
+    texts::text(random, &numbers, damages)
+}
+
+fn write(random: &mut Random) -> Case {
+    let mut numbers = file_numbers(random);
+    for _ in 0..damages(random) {
+        match random.below(8) {
+            0 => damage_number(random, &mut numbers.particulars, &PARTICULARS),
+            1 => damage_number(random, &mut numbers.half_breadths, &[HALF_BREADTH]),
+            2 => damage_records(random, &mut numbers.items, &ITEM),
+            3 | 4 => damage_records(random, &mut numbers.tanks, &TANK),
+            5 => damage_size(random, &mut numbers.half_breadths, 1),
+            6 => damage_size(random, &mut numbers.items, ITEM.len()),
+            _ => damage_size(random, &mut numbers.tanks, TANK.len()),
+        }
+    }
+    let room = match random.below(8) {
+        0..=3 => {
+            let FileNumbers { particulars, half_breadths, items, tanks } = &numbers;
+            near(random, needed(peer::write(particulars, half_breadths, items, tanks, &mut [])))
+        }
+        4 => 0,
+        _ => FILE_ROOM,
+    };
+    Case::Write { numbers, room }
+}
+
+/// The length that a call without room asks for.
+fn needed(answer: Result<usize, crate::calls::Refusal>) -> usize {
+    answer.unwrap_or_else(|refusal| refusal.place)
+}
+
+/// The length itself, one less, or a little more.
+fn near(random: &mut Random, length: usize) -> usize {
+    match random.below(4) {
+        0 => length.saturating_sub(1),
+        1 => length + 1 + random.index(40),
+        2 => random.index(length + 1),
+        _ => length,
+    }
+}
+
+fn rows(random: &mut Random) -> Case {
+    let Hull { mut particulars, mut half_breadths } = hulls::hull(random);
+    let exact = (particulars[1] as usize - 1) * ROW.len();
+    let mut room = random.pick(&[exact, exact, exact + 1, ROW_ROOM, ROW_ROOM + 9]);
+    for _ in 0..damages(random) {
+        match random.below(6) {
+            0 | 1 => damage_number(random, &mut particulars, &PARTICULARS),
+            2 | 3 => damage_number(random, &mut half_breadths, &[HALF_BREADTH]),
+            4 => damage_size(random, &mut half_breadths, 1),
+            _ => room = random.pick(&[0, exact - 1, exact - ROW.len(), room]),
+        }
+    }
+    Case::Rows { particulars, half_breadths, room }
+}
+
+fn display(random: &mut Random) -> Case {
+    let mut row = ROW.map(|range| random.between(range.least, range.greatest) as u64);
+    for _ in 0..random.below(4) {
+        let i = random.index(row.len());
+        row[i] = edge(random, ROW[i], row[i] as i64) as u64;
+    }
+    Case::Display { row }
+}
+
+fn condition(random: &mut Random) -> Case {
+    let mut rows = row_tables::usable(random);
+    let (mut items, mut tanks) = if random.one_in(8) { loads::any(random) } else { loads::aimed(random, &rows) };
+    for _ in 0..damages(random) {
+        match random.below(10) {
+            0 => damage_records(random, &mut items, &ITEM),
+            1 => damage_records(random, &mut tanks, &TANK),
+            2 => loads::overfill(random, &mut tanks),
+            3 => damage_size(random, &mut items, ITEM.len()),
+            4 => damage_size(random, &mut tanks, TANK.len()),
+            5 => damage_size(random, &mut rows, ROW.len()),
+            _ => row_tables::damage(random, &mut rows),
+        }
+    }
+    Case::Condition { items, tanks, rows }
+}

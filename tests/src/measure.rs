@@ -1,0 +1,161 @@
+//! Times the library beside the own calculation, call by call, on three files.
+
+use crate::calculation::{Calculation, LIBRARY, PEER};
+use crate::samples::{largest_file, SAMPLE_FILE, SMALLEST_FILE};
+use std::hint::black_box;
+use std::time::{Duration, Instant};
+
+const ROUNDS: usize = 40;
+const ROUND_TIME: Duration = Duration::from_millis(5);
+const CALLS: [&str; 5] = ["read", "rows", "condition", "report", "write"];
+const FILES: [&str; 3] = ["smallest", "sample", "largest"];
+
+/// Prints the times of every call on every file.
+pub fn run() {
+    println!("ns per call: the median and the least of {ROUNDS} rounds of about {ROUND_TIME:?}, the two in turn.");
+    println!("Tables and rooms are lent again as the call before left them; they are not cleared between calls.");
+    println!("{:10} {:9} {:>19} {:>19} {:>13}", "call", "file", "library", "peer", "library/peer");
+    for file in FILES {
+        let mut lent = Lent::of(file).expect("the file has a name");
+        for call in CALLS {
+            let (library, peer) = measure(call, &mut lent);
+            let ratio = library.median / peer.median;
+            let least = library.least / peer.least;
+            println!("{call:10} {file:9} {library} {peer} {ratio:>6.2} {least:>6.2}");
+        }
+    }
+}
+
+/// Makes one calculation's call so many times on a named file; answers whether there are such.
+pub fn repeat(calculation: &str, call: &str, file: &str, times: u64) -> bool {
+    let calculation = [LIBRARY, PEER].into_iter().find(|known| known.name == calculation);
+    match (calculation, Lent::of(file)) {
+        (Some(calculation), Some(mut lent)) if CALLS.contains(&call) => {
+            lent.call(&calculation, call, times);
+            true
+        }
+        _ => false,
+    }
+}
+
+/// The median and the least time of a call, in ns.
+struct Times {
+    median: f64,
+    least: f64,
+}
+
+impl Times {
+    fn of(mut rounds: Vec<f64>) -> Times {
+        rounds.sort_by(f64::total_cmp);
+        Times { median: rounds[rounds.len() / 2], least: rounds[0] }
+    }
+}
+
+impl std::fmt::Display for Times {
+    fn fmt(&self, line: &mut std::fmt::Formatter) -> std::fmt::Result {
+        write!(line, "{:>9.1} {:>9.1}", self.median, self.least)
+    }
+}
+
+/// Times both calculations in turn; which goes first changes from round to round.
+fn measure(call: &str, lent: &mut Lent) -> (Times, Times) {
+    let times = calls_in_a_round(call, lent);
+    let mut rounds = [Vec::new(), Vec::new()];
+    for round in 0..ROUNDS {
+        for turn in [round % 2, 1 - round % 2] {
+            let calculation = [LIBRARY, PEER][turn].name;
+            let nanoseconds = time(calculation, call, lent, times).as_nanos() as f64;
+            rounds[turn].push(nanoseconds / times as f64);
+        }
+    }
+    let [library, peer] = rounds;
+    (Times::of(library), Times::of(peer))
+}
+
+fn time(calculation: &str, call: &str, lent: &mut Lent, times: u64) -> Duration {
+    let calculation = if calculation == LIBRARY.name { &LIBRARY } else { &PEER };
+    let start = Instant::now();
+    lent.call(calculation, call, times);
+    start.elapsed()
+}
+
+/// So many calls that the own calculation fills a round.
+fn calls_in_a_round(call: &str, lent: &mut Lent) -> u64 {
+    let mut times = 1;
+    while time(PEER.name, call, lent, times) < ROUND_TIME {
+        times *= 2;
+    }
+    times
+}
+
+/// A file with its numbers, and the tables and rooms that are lent.
+struct Lent {
+    text: Vec<u8>,
+    particulars: [u64; 5],
+    half_breadths: Vec<u64>,
+    items: Vec<i64>,
+    tanks: Vec<i64>,
+    rows: Vec<u64>,
+    room: Vec<u8>,
+    tables: (Vec<u64>, Vec<i64>, Vec<i64>, Vec<u64>),
+}
+
+impl Lent {
+    fn of(file: &str) -> Option<Lent> {
+        let text = match file {
+            "smallest" => SMALLEST_FILE.to_string(),
+            "sample" => SAMPLE_FILE.to_string(),
+            "largest" => largest_file(),
+            _ => return None,
+        };
+        let mut tables = (vec![0; 861], vec![0; 128], vec![0; 128], vec![0; 133]);
+        let summary = (PEER.read)(text.as_bytes(), &mut tables.0, &mut tables.1, &mut tables.2).ok()?;
+        let [n, m, ..] = summary.particulars;
+        let half_breadths = tables.0[..((n + 1) * (m + 1)) as usize].to_vec();
+        let items = tables.1[..4 * summary.items as usize].to_vec();
+        let tanks = tables.2[..8 * summary.tanks as usize].to_vec();
+        let count = (PEER.rows)(&half_breadths, &summary.particulars, &mut tables.3).ok()?;
+        let rows = tables.3[..7 * count].to_vec();
+        (PEER.condition)(&items, &tanks, &rows).ok()?;
+        let (text, room, particulars) = (text.into_bytes(), vec![0; 16_384], summary.particulars);
+        Some(Lent { text, particulars, half_breadths, items, tanks, rows, room, tables })
+    }
+
+    fn call(&mut self, calculation: &Calculation, call: &str, times: u64) {
+        let Lent { text, particulars, half_breadths, items, tanks, rows, room, tables } = self;
+        let (read_half_breadths, read_items, read_tanks, made_rows) = tables;
+        match call {
+            "read" => repeatedly(times, || {
+                let answer = (calculation.read)(black_box(text), read_half_breadths, read_items, read_tanks);
+                black_box((&read_half_breadths, &read_items, &read_tanks));
+                answer.is_ok()
+            }),
+            "rows" => repeatedly(times, || {
+                let answer = (calculation.rows)(black_box(half_breadths), black_box(particulars), made_rows);
+                black_box(&made_rows);
+                answer.is_ok()
+            }),
+            "condition" => repeatedly(times, || {
+                black_box((calculation.condition)(black_box(items), black_box(tanks), black_box(rows))).is_ok()
+            }),
+            "report" => repeatedly(times, || {
+                let answer = (calculation.report)(black_box(text), room);
+                black_box(&room);
+                answer.is_ok()
+            }),
+            _ => repeatedly(times, || {
+                let numbers = black_box((&particulars, &half_breadths, &items, &tanks));
+                let answer = (calculation.write)(numbers.0, numbers.1, numbers.2, numbers.3, room);
+                black_box(&room);
+                answer.is_ok()
+            }),
+        }
+    }
+}
+
+/// Makes a call so many times; each must be answered.
+fn repeatedly(times: u64, mut call: impl FnMut() -> bool) {
+    for _ in 0..times {
+        assert!(black_box(call()), "the call is refused");
+    }
+}

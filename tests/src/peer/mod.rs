@@ -1,0 +1,65 @@
+//! The own calculation: the paper's rules once more, written by hand from the paper alone.
+//!
+//! One function for each call of the library, with the same refusals and the same behaviour on what is lent. Nothing is
+//! allocated; what could be refused halfway is worked out in tables of the call's own and then copied.
+
+mod condition;
+mod display;
+mod pen;
+pub mod ranges;
+mod reader;
+mod rows;
+mod sheet;
+mod writer;
+
+#[cfg(test)]
+mod trial_figures;
+
+pub use condition::condition;
+pub use display::display;
+pub use reader::read;
+pub use rows::rows;
+pub use sheet::report;
+pub use writer::write;
+
+use crate::calls::Refusal;
+
+/// The paper's refusals, by number.
+mod refusals {
+    pub const FILE_TOO_LONG: u64 = 1;
+    pub const NO_NUMBER: u64 = 2;
+    pub const COUNT: u64 = 3;
+    pub const RANGE: u64 = 4;
+    pub const ENDS_EARLY: u64 = 5;
+    pub const AFTER_THE_END: u64 = 6;
+    pub const TABLE_SIZE: u64 = 7;
+    pub const DISPLACEMENT: u64 = 8;
+    pub const KM_TOO_HIGH: u64 = 9;
+    pub const ROW_TABLE: u64 = 10;
+    pub const WEIGHT_BELOW: u64 = 11;
+    pub const WEIGHT_ABOVE: u64 = 12;
+    pub const OVERFILLED: u64 = 13;
+    pub const ROOM: u64 = 14;
+}
+
+/// The places of refusal 7, one for each kind of lent table.
+mod tables {
+    pub const HALF_BREADTHS: usize = 0;
+    pub const ITEMS: usize = 1;
+    pub const TANKS: usize = 2;
+    pub const ROWS: usize = 3;
+}
+
+/// Refuses with this number at this place.
+fn refuse<T>(number: u64, place: usize) -> Result<T, Refusal> {
+    Err(Refusal { number, place })
+}
+
+/// Refuses with 7 at `table` unless its size is right.
+fn size_is_right(right: bool, table: usize) -> Result<(), Refusal> {
+    if right {
+        Ok(())
+    } else {
+        refuse(refusals::TABLE_SIZE, table)
+    }
+}

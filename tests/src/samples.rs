@@ -1,0 +1,75 @@
+//! Files with a name: the paper's sample, the smallest that gives a condition, and the largest.
+
+/// The file of the paper's trial figures, and the sheet it gives.
+pub const SAMPLE_FILE: &str = "\
+5
+4 4 2500 500 1000
+25
+2000 2000 2000 2000 2000
+2000 2000 2000 2000 2000
+2000 2000 2000 2000 2000
+2000 2000 2000 2000 2000
+2000 2000 2000 2000 2000
+1
+45000 5000 0 1000
+1
+5000 8000 5000 400 300 2000 2000 1000
+";
+
+#[cfg(test)]
+pub const SAMPLE_SHEET: &str = "\
+R 1000 40000 5000 500 1333 1833 40000000
+R 1500 60000 5000 750 888 1638 40000000
+R 2000 80000 5000 1000 666 1666 40000000
+C 50000 1250 1735 5000 46500000 1333334 778 2000000 heeled 1
+";
+
+/// Two intervals of length, three of draft, one item, and no number longer than it must be.
+pub const SMALLEST_FILE: &str = "5 2 3 99 300 900 12 9 9 9 9 9 9 9 9 9 9 9 9 1 1 0 0 0 0";
+
+const STATIONS: i64 = 41;
+const WATERLINES: i64 = 21;
+const ITEMS: i64 = 32;
+const TANKS: i64 = 16;
+
+/// Forty intervals of length, twenty of draft, and as many items and tanks as a file may have, on a ship's lines.
+pub fn largest_file() -> String {
+    let mut text = String::from("5\n40 20 2500 500 1025\n861\n");
+    for station in 0..STATIONS {
+        line(&mut text, (0..WATERLINES).map(|waterline| half_breadth(station, waterline)));
+    }
+    text.push_str("32\n");
+    for item in 0..ITEMS {
+        line(&mut text, [200_000 - 1_000 * item, 3_000 * item + 1_500, sideways(item), 2_000 + 100 * item]);
+    }
+    text.push_str("16\n");
+    for tank in 0..TANKS {
+        let contents = 150_000 + 5_000 * tank;
+        line(&mut text, [contents, 250_000, 6_000 * tank + 2_500, sideways(tank), 1_250, 5_500, 6_250, 1_010]);
+    }
+    text
+}
+
+/// Fuller amidships and towards the deck, four digits everywhere.
+fn half_breadth(station: i64, waterline: i64) -> i64 {
+    let from_the_middle = 2 * station - (STATIONS - 1);
+    let along = 1_600 - from_the_middle * from_the_middle;
+    let up = 400 - (WATERLINES - 1 - waterline) * (WATERLINES - 1 - waterline);
+    1_000 + 6_875 * along / 1_600 * (200 + up) / 600
+}
+
+/// Port and starboard in turn.
+fn sideways(number: i64) -> i64 {
+    let distance = 1_500 + 125 * number;
+    if number % 2 == 0 {
+        distance
+    } else {
+        -distance
+    }
+}
+
+fn line(text: &mut String, numbers: impl IntoIterator<Item = i64>) {
+    let words: Vec<String> = numbers.into_iter().map(|number| number.to_string()).collect();
+    text.push_str(&words.join(" "));
+    text.push('\n');
+}
