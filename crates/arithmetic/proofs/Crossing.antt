@@ -4,6 +4,7 @@
 --     is-negative-is                     the machine's test for below 0 is `isNegative`
 --     cast-defined                       the cast of a number that is not below 0
 --     Turned, turn                       the steps from a negative number to its magnitude
+--     mag-le                             what 64 bits have to hold of a number is no more than its size
 --     nearest-fits, nearest-of-small     a nearest number is held by 64 bits; one that they hold is its own nearest
 --     nearest-back                       a callee's nearest number, read back
 --     Lowered, lower                     the steps from a whole number to its negation
@@ -89,6 +90,10 @@ turn (negsuc k) f e =
       turned-is = back-is held₂ ∙ round;
       small = f .sfits;
     }
+
+pub mag-le : (v : ℤ) → mag v ≤ natAbs v
+mag-le (pos n) = omega arith
+mag-le (negsuc n) = omega arith
 
 -- ---- the nearest number that 64 bits hold
 pub nearest-fits : (v : ℤ) → SFits w64 (nearest v)

@@ -11,5 +11,6 @@ pub mod Polynomial
 pub mod Integer
 pub mod Whole
 pub mod Crossing
+pub mod Floats
 pub mod Parts
 pub mod Room

@@ -6,14 +6,14 @@
 --     down-mono, up-mono      a larger numerator, never a smaller answer
 --     down-anti, up-anti      a larger divisor, never a larger answer
 --     down-whole, up-whole    a whole number needs no rounding
---     up-zero                 nothing, rounded up, is nothing
+--     up-zero, up-le          nothing, rounded up, is nothing; rounded up is no more than the numerator
 --     down-le-up              rounded down is at most rounded up, and the two are at most one apart
 -- How far each is from the fraction stands in the records themselves: less than the divisor, over the divisor.
 -- Assumes nothing.
-use mathlib.Core.Path.{_≡_, refl}
+use mathlib.Core.Path.{_≡_, refl, subst}
 use mathlib.Core.Logic.{_↔_}
 use Prim.Native.Nat.{ℕ, suc, _+_, _-_, _*_, _/_, _≤_, _<_}
-use native.Mathlib.Nat.{mul-le-mul-left, mul-le-mul-right, mul-add, add-mul, mul-comm, one-mul, div-mul-le-self, lt-div-mul-add, lt-of-mul-lt-mul-right, le-antisymm}
+use native.Mathlib.Nat.{mul-le-mul-left, mul-le-mul-right, mul-add, add-mul, mul-comm, mul-one, one-mul, div-mul-le-self, lt-div-mul-add, lt-of-mul-lt-mul-right, le-antisymm}
 use native.Mathlib.Numerals.{suc-eq-add-one}
 use native.Mathlib.Omega.{arith}
 use Rattle.arithmetic.specs.Rounding.{roundedUp, RoundedDown, RoundedUp}
@@ -77,6 +77,9 @@ up-whole q b h = record { some = h; low = omega arith; high = omega arith }
 
 pub up-zero : {b q : ℕ} → RoundedUp 0 b q → q ≡ 0
 up-zero {b} {q} u = let h : q ≤ 0 = fewer b q 0 (omega arith) in omega arith
+
+pub up-le : {a b q : ℕ} → RoundedUp a b q → q ≤ a
+up-le {a} u = up-anti (subst (λ n. RoundedUp n 1 a) (mul-one a) (up-whole a 1 (omega arith))) u (u .some)
 
 -- a quotient with a remainder, rounded up, is one more; without one, the quotient itself
 module _ {a b : ℕ} (h : 0 < b) where

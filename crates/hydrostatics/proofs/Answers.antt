@@ -10,7 +10,7 @@ use Prim.Native.Nat.{ℕ, _+_, _-_, _*_, _≤_, _<_}
 use native.Mathlib.Omega.{arith}
 use borrow.Author.Tests.{lt-ltb, le-ltb, eq-eqb, ne-eqb}
 use lib.IntN.{pos}
-use lib.ListN.{length, length-map}
+use lib.ListN.{length}
 use Rattle.arithmetic.proofs.Choice.{chosen}
 use Rattle.ranges.specs.Fields.{particulars, halfBreadth}
 use Rattle.ranges.specs.InRange.{ParticularsInRange}
@@ -24,10 +24,9 @@ use Rattle.hydrostatics.specs.Rows.{rowsUpTo, rowsOf}
 use Rattle.hydrostatics.specs.Table.{FillsRows}
 use Rattle.hydrostatics.specs.Waterplanes.{InRange}
 use Rattle.hydrostatics.specs.declared.Rows.{Rows}
-use Rattle.hydrostatics.proofs.InRows.{first-le}
 
 pub particulars-told : {p : Particulars} {particular : ℕ} → particular ≡ firstOutside particulars (numbersOf p) → 5 ≤ particular → ParticularsInRange p
-particulars-told {p} first a = particulars-in-range p (omega (arith, first, first-le particulars (numbersOf p)))
+particulars-told {p} first a = particulars-in-range p (omega (arith, first))
 
 pub hull-told :
     {table : List ℕ} {p : Particulars} {place : ℕ}
@@ -38,7 +37,7 @@ pub hull-told :
     → InRange table p
 hull-told {table} range b second d = record {
   particulars = range;
-  half-breadths = half-breadths-in-range table (omega (arith, second, first-le halfBreadth (map pos table), length-map table pos));
+  half-breadths = half-breadths-in-range table (omega (arith, second));
   complete = b;
 }
 

@@ -1,10 +1,10 @@
 -- What an answer of the rows tells.
 --     Passed, passed           every row among the first `count` has passed 8 and 9, and the numbers are theirs
+--     counted, refused-count   what a row count, and a refusal in its place, tell of the rows
 --     made-count               the answer carries the row count
 --     made-left, refused-left  the table after a success, by the rows that were kept, and after a refusal
 -- Assumes nothing.
 use mathlib.Core.Path.{_≡_, refl, sym, ap, _∙_}
-use mathlib.Core.Bool.{Bool, true, false}
 use mathlib.Core.List.{List, _++_}
 use Prim.Native.Nat.{ℕ, zero, suc, _+_, _-_, _*_, _/_, _≤_, _<_}
 use native.Mathlib.Omega.{arith}
@@ -14,7 +14,7 @@ use lib.Dec.{leb, ltb}
 use lib.ListN.{length, getD, drop}
 use native.Mathlib.Numerals.{add-one}
 use Rattle.arithmetic.specs.Choice.{if_then_else_}
-use Rattle.ranges.specs.Outcome.{Outcome, answered, refused, andThen}
+use Rattle.ranges.specs.Outcome.{Outcome, answered, refused}
 use Rattle.ranges.specs.Refusals.{displacementNotRising, metacentreTooHigh}
 use Rattle.ranges.specs.declared.Particulars.{Particulars}
 use Rattle.hydrostatics.specs.Promise.{paper, countOf, tableAfter}
@@ -24,23 +24,8 @@ use Rattle.hydrostatics.specs.Table.{noRow, numbersUpTo, TriedRows, Fill
 use Rattle.hydrostatics.specs.declared.Rows.the-variants.{Made, Refused}
 use Rattle.hydrostatics.specs.declared.table.Tried.{Tried}
 use Rattle.ranges.specs.declared.Refusal.{Refusal}
+use Rattle.ranges.proofs.Outcomes.{refused-not, not-refused, answered-then}
 use Rattle.hydrostatics.proofs.Writing.{numbers-length, numbers-same}
-
--- a refusal is no answer
-pub never : {A X : Type 0} {number place : ℕ} {a : A} → refused number place ≡ answered a → X
-never e = let z : _≡_ {A = ℕ} 0 1 = cc in absurd (omega arith)
-
--- what is answered in the end was answered on the way
-went-on : {A B X : Type 0} (o : Outcome A) (next : A → Outcome B) {b : B} → andThen o next ≡ answered b → ((a : A) → o ≡ answered a → next a ≡ answered b → X) → X
-unfolding andThen
-went-on (answered a) next e on = on a refl e
-went-on (refused number place) next e on = never e
-
--- the refusal was not given
-pub else-answered : {A : Type 0} (t : Bool) (number place : ℕ) (other : Outcome A) {a : A} → (if t then refused number place else other) ≡ answered a → (t ≡ false) × (other ≡ answered a)
-unfolding if_then_else_
-else-answered true number place other e = never e
-else-answered false number place other e = (refl, e)
 
 below-suc : {P : ℕ → Type 0} (r : ℕ) → ((i : ℕ) → i < r → P i) → P r → (i : ℕ) → i < suc r → P i
 below-suc {P} r all here = rw add-one at (below-more P r all here)
@@ -58,8 +43,8 @@ module _ {table : List ℕ} {p : Particulars} where
   unfolding numbersUpTo
   passed-more r {before} so e =
       let row = rowOf table p r in
-      let rising = else-answered (leb (row .displacement) (displacementBefore table p r)) displacementNotRising r _ e in
-      let low = else-answered (ltb highestMetacentre (row .km)) metacentreTooHigh r _ (rising .1) in
+      let rising = not-refused displacementNotRising r e in
+      let low = not-refused metacentreTooHigh r (rising .1) in
       record {
         numbers-are = cc (low .1) ∙ ap (λ l. l ++ numbersOf row) (so .numbers-are);
         rises = below-suc r (so .rises) (leb-false (row .displacement) (displacementBefore table p r) (rising .0));
@@ -69,14 +54,20 @@ module _ {table : List ℕ} {p : Particulars} where
   pub passed : (count : ℕ) {numbers : List ℕ} → rowsUpTo table p count ≡ answered numbers → Passed table p count numbers
   unfolding rowsUpTo numbersUpTo
   passed zero e = record { numbers-are = cc; rises = below-none _; under = below-none _ }
-  passed (suc r) e = went-on (rowsUpTo table p r) _ e (λ before so told. passed-more r (passed r so) told)
+  passed (suc r) e = let before = answered-then e in passed-more r (passed r (before .1)) (before .2)
 
 -- ---- what is left of the lent table
 -- an outcome with a count has numbers
 pub counted : {X : Type 0} (o : Outcome (List ℕ)) {count : ℕ} → answered count ≡ countOf o → ((numbers : List ℕ) → o ≡ answered numbers → count ≡ length numbers / 7 → X) → X
 unfolding countOf
 counted (answered numbers) e on = on numbers refl cc
-counted (refused number place) e on = never (sym e)
+counted (refused number place) e on = refused-not (sym e)
+
+-- a refusal in place of the count is one of the rows
+pub refused-count : (o : Outcome (List ℕ)) {number place : ℕ} → refused number place ≡ countOf o → o ≡ refused number place
+unfolding countOf
+refused-count (answered numbers) e = refused-not e
+refused-count (refused number place) e = cc
 
 module _ {table : List ℕ} {p : Particulars} {tried : Tried} (so : TriedRows table p tried) where
   module _ {count : ℕ} (made : tried .answer ≡ Made count) where
@@ -101,9 +92,5 @@ module _ {table : List ℕ} {p : Particulars} {tried : Tried} (so : TriedRows ta
     }
 
   pub refused-left : {r : Refusal} {was : List ℕ} → tried .answer ≡ Refused r → FillsRows table p was was (tried .answer)
-  unfolding tableAfter countOf
-  refused-left {r} {was} e = record { answer-is = so .answer-is; left = untouched (rowsUpTo table p (p .m - 1)) (sym (ap paper e) ∙ so .answer-is) }
-    where
-      untouched : (o : Outcome (List ℕ)) → refused (r .number) (r .place) ≡ countOf o → was ≡ tableAfter o was
-      untouched (answered numbers) f = never f
-      untouched (refused number place) f = refl
+  unfolding tableAfter
+  refused-left e = record { answer-is = so .answer-is; left = rw (refused-count (rowsUpTo table p (p .m - 1)) (sym (ap paper e) ∙ so .answer-is)) }

@@ -18,6 +18,7 @@ use Rattle.arithmetic.proofs.Choice.{chosen}
 use Rattle.ranges.specs.Outcome.{answered, refused, andThen}
 use Rattle.ranges.specs.Refusals.{displacementNotRising, metacentreTooHigh}
 use Rattle.ranges.specs.declared.Particulars.{Particulars}
+use Rattle.ranges.proofs.Outcomes.{refused-not}
 use Rattle.hydrostatics.specs.Promise.{paper, countOf}
 use Rattle.hydrostatics.specs.Row.{rowOf, numbersOf, highestMetacentre}
 use Rattle.hydrostatics.specs.Rows.{displacementBefore, rowsUpTo}
@@ -71,7 +72,7 @@ module _ {table : List ℕ} {p : Particulars} {rows : List Row} where
   unfolding countOf
   refusal e f = record {
     answer-is = rw e f;
-    rows-are = λ count g. let both = sym (ap paper g) ∙ f in let z : _≡_ {A = ℕ} 0 1 = cc in absurd (omega arith);
+    rows-are = λ count g. refused-not (sym f ∙ ap paper g);
   }
 
   pub passing-all : {r before : ℕ} → Passing table p r before rows → r ≡ p .m - 1 → TriedRows table p (record { rows = rows; answer = Made (p .m - 1) })

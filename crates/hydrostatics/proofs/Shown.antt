@@ -1,28 +1,22 @@
 -- A row for display.
---     exact                               a whole number up to 2⁵³ is converted to a float without loss
 --     thousand, million                   the code's units, which it has by their bits
 --     shown-refused, shown-all, shown     what is displayed, by the place of the first number outside
 -- Assumes nothing.
 use mathlib.Core.Path.{_≡_, refl}
 use mathlib.Core.List.{map}
-use Prim.Native.Nat.{ℕ, _≤_, _<_, _^_}
+use Prim.Native.Nat.{ℕ, _≤_, _<_}
 use native.Mathlib.Omega.{arith}
 use borrow.Author.Tests.{lt-ltb, le-ltb}
-use lib.Dec.{T, le→leb}
-use lib.Ieee.{binary64, inFloat, ofBits, ofInt}
+use lib.Ieee.{binary64, ofBits, ofInt}
 use lib.IntN.{pos}
 use Rattle.arithmetic.proofs.Choice.{chosen}
 use Rattle.ranges.specs.Outcome.{answered, refused}
 use Rattle.ranges.specs.Outside.{firstOutside}
 use Rattle.ranges.specs.Refusals.{outOfRange}
+use Rattle.ranges.proofs.Outside.{outside-le}
 use Rattle.hydrostatics.specs.Display.{figuresOf, displayOf}
 use Rattle.hydrostatics.specs.Row.{numbersOf, rowRanges}
 use Rattle.hydrostatics.specs.declared.Row.{Row}
-use Rattle.hydrostatics.proofs.InRows.{first-le}
-
-pub exact : {n : ℕ} → n ≤ 2 ^ 53 → T (inFloat binary64 (pos n))
-unfolding inFloat
-exact {n} h = le→leb n (2 ^ 53) h
 
 pub thousand : ofBits binary64 0x408f_4000_0000_0000 ≡ ofInt binary64 (pos 1_000)
 unfolding ofBits ofInt
@@ -40,7 +34,7 @@ module _ (row : Row) {place : ℕ} (first : place ≡ firstOutside rowRanges (ma
 
   module _ (h : 7 ≤ place) where
     pub shown-all : firstOutside rowRanges (map pos (numbersOf row)) ≡ 7
-    shown-all = omega (arith, first, first-le rowRanges (map pos (numbersOf row)))
+    shown-all = omega (arith, first, outside-le rowRanges (map pos (numbersOf row)))
 
     pub shown : answered (figuresOf row) ≡ displayOf row
     unfolding displayOf

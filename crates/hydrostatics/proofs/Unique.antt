@@ -2,12 +2,11 @@
 --     makes-rows-unique         of making the rows
 --     display-unique            of displaying a row
 -- The place of a row's first number outside is promised as `r ≡ definition`, which has one answer. Assumes nothing.
-use mathlib.Core.Path.{_≡_, sym, ap, ap₂, _∙_}
+use mathlib.Core.Path.{_≡_, sym, ap, _∙_}
 use mathlib.Core.List.{List}
 use Prim.Native.Nat.{ℕ}
-use Rattle.ranges.specs.Outcome.{Outcome, refused}
 use Rattle.ranges.specs.declared.Particulars.{Particulars}
-use Rattle.ranges.specs.declared.Refusal.{Refusal}
+use Rattle.ranges.proofs.Outcomes.{refused-not, refusal-same}
 use Rattle.hydrostatics.specs.Display as Display
 use Rattle.hydrostatics.specs.Promise as Promise
 use Rattle.hydrostatics.specs.Promise.{MakesRows}
@@ -16,16 +15,11 @@ use Rattle.hydrostatics.specs.declared.Display.the-variants as Displayed
 use Rattle.hydrostatics.specs.declared.Row.{Row}
 use Rattle.hydrostatics.specs.declared.Rows.{Rows}
 use Rattle.hydrostatics.specs.declared.Rows.the-variants.{Made, Refused}
-use Rattle.hydrostatics.proofs.Passed.{never}
-
--- a refusal is known from its number and place
-refusal-same : {A : Type 0} (r s : Refusal) → _≡_ {A = Outcome A} (refused (r .number) (r .place)) (refused (s .number) (s .place)) → r ≡ s
-refusal-same r s e = ap₂ (λ n p. record { number = n; place = p }) (cc) (cc)
 
 rows-same : (a b : Rows) → Promise.paper a ≡ Promise.paper b → a ≡ b
 rows-same (Made m) (Made n) e = cc
-rows-same (Made m) (Refused s) e = never (sym e)
-rows-same (Refused r) (Made n) e = never e
+rows-same (Made m) (Refused s) e = refused-not (sym e)
+rows-same (Refused r) (Made n) e = refused-not e
 rows-same (Refused r) (Refused s) e = ap Refused (refusal-same r s e)
 
 pub makes-rows-unique : {table : List ℕ} {p : Particulars} {rows after after′ : List ℕ} {answer answer′ : Rows} → MakesRows table p rows after answer → MakesRows table p rows after′ answer′ → (answer ≡ answer′) × (after ≡ after′)
@@ -34,8 +28,8 @@ makes-rows-unique {answer} {answer′} one other =
 
 display-same : (a b : Displayed) → Display.paper a ≡ Display.paper b → a ≡ b
 display-same (Displayed.Shown f) (Displayed.Shown g) e = cc
-display-same (Displayed.Shown f) (Displayed.Refused s) e = never (sym e)
-display-same (Displayed.Refused r) (Displayed.Shown g) e = never e
+display-same (Displayed.Shown f) (Displayed.Refused s) e = refused-not (sym e)
+display-same (Displayed.Refused r) (Displayed.Shown g) e = refused-not e
 display-same (Displayed.Refused r) (Displayed.Refused s) e = ap Displayed.Refused (refusal-same r s e)
 
 pub display-unique : (row : Row) {answer answer′ : Displayed} → Display.paper answer ≡ Display.displayOf row → Display.paper answer′ ≡ Display.displayOf row → answer ≡ answer′

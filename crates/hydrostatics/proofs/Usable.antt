@@ -4,14 +4,14 @@
 --     made-usable          the same from the promise
 -- Assumes nothing.
 use mathlib.Core.Path.{_≡_, refl, ap, _∙_}
-use mathlib.Core.Bool.{Bool, true, false, not, _||_}
+use mathlib.Core.Bool.{true, _||_, or-true}
 use mathlib.Core.List.{List, _++_, map}
 use mathlib.Core.Logic.{_⊎_, inl, inr}
 use Prim.Native.Nat.{ℕ, zero, suc, _+_, _-_, _*_, _/_, _≤_, _<_}
 use native.Mathlib.Nat.{mul-comm}
 use native.Mathlib.Omega.{arith}
 use borrow.Author.Tests.{lt-ltb, eq-eqb, ltb-false, not-false, eqb-true}
-use lib.Dec.{eqb, ltb}
+use lib.Dec.{eqb}
 use lib.IntN.{pos}
 use lib.ListN.{length, drop}
 use Rattle.arithmetic.proofs.Choice.{chosen}
@@ -20,6 +20,8 @@ use Rattle.ranges.specs.Outcome.{answered, andThen}
 use Rattle.ranges.specs.Outside.{firstOutside, numbersOf}
 use Rattle.ranges.specs.Refusals.{outOfRange, wrongSize}
 use Rattle.ranges.specs.declared.Particulars.{Particulars}
+use Rattle.ranges.proofs.Facts.{whole-within}
+use Rattle.ranges.proofs.Outcomes.{not-refused}
 use Rattle.hydrostatics.specs.Promise.{tableAfter, MakesRows}
 use Rattle.hydrostatics.specs.Row.{rowAt, rowOf}
 use Rattle.hydrostatics.specs.Rows.{displacementBefore, rowsOf}
@@ -27,9 +29,9 @@ use Rattle.hydrostatics.specs.Usable.{inRange, spaced, rises, metacentre
 use Rattle.hydrostatics.specs.Waterplanes.{InRange}
 use Rattle.hydrostatics.specs.declared.Rows.the-variants.{Made}
 use Rattle.hydrostatics.proofs.Answers.{particulars-told, hull-told}
-use Rattle.hydrostatics.proofs.InRows.{none-outside, inside}
+use Rattle.hydrostatics.proofs.InRows.{none-outside}
 use Rattle.hydrostatics.proofs.Metacentre.{metacentre-fits}
-use Rattle.hydrostatics.proofs.Passed.{Passed, passed, else-answered, counted}
+use Rattle.hydrostatics.proofs.Passed.{Passed, passed, counted}
 use Rattle.hydrostatics.proofs.Ranged.{row-ranged}
 use Rattle.hydrostatics.proofs.Reading.{Holds, numbers-part, seven-in, row-in}
 use Rattle.hydrostatics.proofs.Writing.{numbers-length}
@@ -46,10 +48,10 @@ answered-rows {table} {p} room e =
     let whole = length table in
     let size = (p .n + 1) * (p .m + 1) in
     let place = firstOutside halfBreadth (map pos table) in
-    let one = else-answered (ltb bad 5) outOfRange bad _ e in
-    let two = else-answered (not (eqb whole size)) wrongSize 0 _ (one .1) in
-    let three = else-answered (ltb room (7 * (p .m - 1))) wrongSize 3 _ (two .1) in
-    let four = else-answered (ltb place whole) outOfRange (5 + place) _ (three .1) in
+    let one = not-refused outOfRange bad e in
+    let two = not-refused wrongSize 0 (one .1) in
+    let three = not-refused wrongSize 3 (two .1) in
+    let four = not-refused outOfRange (5 + place) (three .1) in
     record {
       hull = hull-told (particulars-told refl (ltb-false bad 5 (one .0))) (eqb-true whole size (not-false (eqb whole size) (two .0))) refl (ltb-false place whole (four .0));
       rows = passed (p .m - 1) (four .1);
@@ -59,10 +61,6 @@ answered-rows {table} {p} room e =
 both : (a b c : ℕ) → (a ≡ c) ⊎ (b ≡ c) → eqb a c || eqb b c ≡ true
 both a b c (inl e) = rw (eq-eqb a c e)
 both a b c (inr e) = rw (eq-eqb b c e) (or-true (eqb a c))
-  where
-    or-true : (t : Bool) → t || true ≡ true
-    or-true true = refl
-    or-true false = refl
 
 module _ {table : List ℕ} {p : Particulars} {numbers : List ℕ} (so : Answered table p numbers) (beyond : List ℕ) where
   held : (r : ℕ) → r < p .m - 1 → Holds (numbers ++ beyond) r (rowOf table p r)
@@ -82,7 +80,7 @@ module _ {table : List ℕ} {p : Particulars} {numbers : List ℕ} (so : Answere
     evenly =
         let d : (10 ≤ p .d) × (p .d ≤ 500) = (so .hull .particulars .d-least, so .hull .particulars .d-most) in
         let half : p .d * 2 / 2 ≡ p .d = omega arith in
-        rw (row-in (held 0 (omega arith)), row-in (held r h), half, eq-eqb (2 * p .d) (p .d * 2) (omega arith), inside 10 500 (p .d) d, eq-eqb (p .d * (r + 2)) ((r + 2) * p .d) (mul-comm (p .d) (r + 2)))
+        rw (row-in (held 0 (omega arith)), row-in (held r h), half, eq-eqb (2 * p .d) (p .d * 2) (omega arith), whole-within 10 500 (p .d) d, eq-eqb (p .d * (r + 2)) ((r + 2) * p .d) (mul-comm (p .d) (r + 2)))
 
     fits : metacentreFits (numbers ++ beyond) r ≡ true
     unfolding metacentreFits

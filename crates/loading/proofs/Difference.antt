@@ -13,9 +13,9 @@ use native.Mathlib.Omega.{arith}
 use borrow.Author.Tests.{ltb-true, ltb-false}
 use lib.Dec.{ltb, le→leb, lt→ltb}
 use lib.IntN.{ℤ, pos, negsuc, negℤ, natAbs, _+ℤ_, _-ℤ_, _*ℤ_}
-use lib.Signed.{_≤ℤ_, _<ℤ_, mag}
+use lib.Signed.{_≤ℤ_, _<ℤ_}
 use Rattle.arithmetic.specs.Signed.{nearest}
-use Rattle.arithmetic.proofs.Crossing.{nearest-of-small}
+use Rattle.arithmetic.proofs.Crossing.{mag-le, nearest-of-small}
 use Rattle.loading.specs.Steady.{aboveZero}
 
 -- z is a less b
@@ -89,10 +89,6 @@ less-above : {a b : ℕ} {z : ℤ} → Less a b z → aboveZero z ≤ a
 less-above (over n e) = omega arith
 less-above (under n e) = omega arith
 
-mag-size : (z : ℤ) → mag z ≤ natAbs z
-mag-size (pos n) = omega arith
-mag-size (negsuc n) = omega arith
-
 module _ (a b : ℕ) where
   pub difference-size : natAbs (pos a -ℤ pos b) ≤ a + b
   difference-size = less-size (less a b)
@@ -102,4 +98,4 @@ module _ (a b : ℕ) where
 
   -- one that 64 bits hold
   pub difference-near : a < 2 ^ 62 → b < 2 ^ 62 → nearest (pos a -ℤ pos b) ≡ pos a -ℤ pos b
-  difference-near h k = nearest-of-small (pos a -ℤ pos b) (omega (arith, difference-size, mag-size (pos a -ℤ pos b)))
+  difference-near h k = nearest-of-small (pos a -ℤ pos b) (omega (arith, difference-size, mag-le (pos a -ℤ pos b)))

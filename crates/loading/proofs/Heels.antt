@@ -1,43 +1,34 @@
 -- The heel and the pass, by the tests that tell them.
---     quotient-most                              a quotient rounded up is no more than its numerator
 --     above-negative, above-whole                what lies above 0, by the sign
 --     unstable, upright, heeled, beyond          the four outcomes
 --     pass-by                                    the pass, by what lies above 0
---     exact-whole, exact-signed                  a number up to 2⁵³ is cast to a float without loss
 -- Assumes nothing.
-use mathlib.Core.Path.{_≡_, refl, sym, ap, subst, _∙_}
+use mathlib.Core.Path.{_≡_, refl, sym, ap, _∙_}
 use mathlib.Core.Bool.{Bool, true, false, _&&_}
-use Prim.Native.Nat.{ℕ, zero, suc, _*_, _^_, _≤_, _<_}
-use native.Mathlib.Nat.{mul-one, mul-assoc}
+use Prim.Native.Nat.{ℕ, zero, suc, _*_, _≤_, _<_}
+use native.Mathlib.Nat.{mul-assoc}
 use native.Mathlib.Omega.{arith}
 use borrow.Author.Tests.{eq-eqb, ne-eqb, le-leb, lt-leb}
-use lib.Dec.{T, leb, le→leb, lt→ltb}
-use lib.Ieee.{binary64, inFloat}
+use lib.Dec.{leb}
 use lib.IntN.{ℤ, pos, negsuc, natAbs}
 use lib.Signed.{leZ}
 use Rattle.arithmetic.specs.Choice.{if_then_else_}
-use Rattle.arithmetic.specs.Rounding.{RoundedUp, roundedUp}
 use Rattle.arithmetic.specs.Signed.{isNegative}
 use Rattle.arithmetic.proofs.Choice.{chosen}
-use Rattle.arithmetic.proofs.Rounding.{up-of, up-anti, up-whole}
+use Rattle.arithmetic.proofs.Tests.{never}
 use Rattle.loading.specs.Stability.{heelLimit, leastGM, tangent, heelOf, stands}
 use Rattle.loading.specs.Steady.{aboveZero, passesWith}
 use Rattle.loading.specs.declared.Heel.{Heel}
 use Rattle.loading.specs.declared.Heel.the-variants.{Unstable, Upright, Heeled, Beyond}
 
-pub quotient-most : (a b : ℕ) → 0 < b → roundedUp a b ≤ a
-quotient-most a b h =
-    let alone : RoundedUp a 1 a = subst (λ n. RoundedUp n 1 a) (mul-one a) (up-whole a 1 (omega arith)) in
-    up-anti alone (up-of a b h) h
-
 -- ---- what lies above 0
 pub above-negative : (v : ℤ) → isNegative v ≡ true → 0 ≡ aboveZero v
-above-negative (pos n) e = let z : _≡_ {A = ℕ} 0 1 = cc in absurd (omega arith)
+above-negative (pos n) e = never e
 above-negative (negsuc n) e = refl
 
 pub above-whole : (v : ℤ) → isNegative v ≡ false → natAbs v ≡ aboveZero v
 above-whole (pos n) e = refl
-above-whole (negsuc n) e = let z : _≡_ {A = ℕ} 0 1 = cc in absurd (omega arith)
+above-whole (negsuc n) e = never (sym e)
 
 none-above : (v : ℤ) → aboveZero v ≡ 0 → leZ v (pos 0) ≡ true
 none-above (pos n) e = le-leb n 0 (omega arith)
@@ -77,13 +68,3 @@ module _ (W g m : ℕ) (gm my : ℤ) (p : g ≡ aboveZero gm) where
 pub pass-by : (gm : ℤ) (heel : Heel) → passesWith gm heel ≡ (leb leastGM (aboveZero gm) && stands heel)
 pass-by (pos n) heel = refl
 pass-by (negsuc n) heel = refl
-
--- ---- floats
-pub exact-whole : (n : ℕ) → n ≤ 2 ^ 53 → T (inFloat binary64 (pos n))
-unfolding inFloat
-exact-whole n h = le→leb n (2 ^ 53) h
-
-pub exact-signed : (z : ℤ) → natAbs z ≤ 2 ^ 53 → T (inFloat binary64 z)
-unfolding inFloat
-exact-signed (pos n) h = le→leb n (2 ^ 53) h
-exact-signed (negsuc n) h = lt→ltb n (2 ^ 53) h

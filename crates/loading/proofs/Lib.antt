@@ -1,5 +1,4 @@
 -- The laws of the loading condition, for every crate above it.
-pub mod Outcomes
 pub mod Totals
 pub mod Difference
 pub mod Places

@@ -9,21 +9,24 @@
 use mathlib.Core.Path.{_≡_, refl, sym, ap, ap₂, subst, _∙_}
 use mathlib.Core.Bool.{Bool, true, false, not, _&&_}
 use mathlib.Core.List.{List}
-use Prim.Native.Nat.{ℕ, _+_, _-_, _/_, _%_, _≤_, _<_}
+use Prim.Native.Nat.{ℕ, _+_, _-_, _/_, _≤_, _<_}
 use native.Mathlib.Omega.{arith}
-use borrow.Author.Tests.{lt-ltb, le-ltb, eqb-true, leb-true}
-use lib.Dec.{leb, ltb, eqb}
+use borrow.Author.Tests.{lt-ltb, le-ltb, leb-true}
+use lib.Dec.{leb, ltb}
 use lib.IntN.{ℤ}
 use lib.ListN.{length}
 use Rattle.arithmetic.specs.Choice.{if_then_else_}
 use Rattle.arithmetic.proofs.Choice.{chosen}
+use Rattle.arithmetic.proofs.Tests.{both}
 use Rattle.hydrostatics.specs.Usable.{rowIn, usableUpTo}
-use Rattle.hydrostatics.proofs.InRows.{first-le}
 use Rattle.ranges.specs.Fields.{item}
 use Rattle.ranges.specs.Outcome.{Outcome, answered, refused, andThen}
 use Rattle.ranges.specs.Outside.{firstOutside}
 use Rattle.ranges.specs.Refusals.{outOfRange, wrongSize, rowsNotUsable, tooLight, tooHeavy}
 use Rattle.ranges.specs.declared.Refusal.{Refusal}
+use Rattle.ranges.proofs.Facts.{records-are}
+use Rattle.ranges.proofs.Outcomes.{refused-not, answered-then}
+use Rattle.ranges.proofs.Outside.{outside-le}
 use Rattle.loading.specs.Aboard as Aboard
 use Rattle.loading.specs.Aboard.{_with_, ofItem, ofTank, altogether, aboardOf, tanksAboard, ItemsFit, TanksWhole, TanksTried}
 use Rattle.loading.specs.Afloat.{Floats, RowsWhole, RowsUsable, RowsTried}
@@ -41,7 +44,6 @@ use Rattle.loading.specs.declared.floating.Floating.{Floating}
 use Rattle.loading.specs.declared.tanks.Trial.{Trial}
 use Rattle.loading.specs.declared.tanks.Trial.the-variants as Trial
 use Rattle.loading.proofs.Moments.{weight-is, condition-is}
-use Rattle.loading.proofs.Outcomes.{both, answered-then}
 use Rattle.loading.proofs.Tables.{last-row}
 
 -- ---- what is aboard against the rows, whose first and last displacements are these
@@ -85,7 +87,7 @@ floats-is t l =
 module _ (items tanks : List ℤ) (t : Table) where
   refused-first : {A B C : Type 0} (o : Outcome A) (b : B) (next : A → Outcome C) (n p : ℕ) → andThen o (λ a. answered b) ≡ refused n p → andThen o next ≡ refused n p
   unfolding andThen
-  refused-first (answered a) b next n p e = let z : _≡_ {A = ℕ} 0 1 = cc in absurd (omega arith)
+  refused-first (answered a) b next n p e = refused-not (sym e)
   refused-first (refused m q) b next n p e = cc
 
   pub after-refused : {r : Trial} {refusal : Refusal} → TanksTried tanks r → r ≡ Trial.Refused refusal → refused (refusal .number) (refusal .place) ≡ afterItems items tanks t
@@ -96,16 +98,11 @@ module _ (items tanks : List ℤ) (t : Table) where
   pub after-passed : {r : Trial} {a b : Aboard} → TanksTried tanks r → r ≡ Trial.Passed b → a ≡ altogether ofItem (itemsOf items) → floatsWith t (a with b) ≡ afterItems items tanks t
   unfolding afterItems tanksAboard andThen
   after-passed {r} {a} {b} tried e f =
-      let trial = answered-then (tanksFrom 0 tanks) _ (sym (tried .is) ∙ ap Aboard.tried e) in
+      let trial = answered-then {o = tanksFrom 0 tanks} (sym (tried .is) ∙ ap Aboard.tried e) in
       let same : altogether ofTank (tanksOf tanks) ≡ b = cc (trial .2) in
       ap (λ c. floatsWith t c) (ap₂ _with_ f (sym same)) ∙ floats-is t (loadOf items tanks) ∙ sym (rw (trial .1))
 
 -- ---- the sizes of the lent tables
-module _ (width : ℕ) (most n : ℕ) where
-  records-are : wholeRecords width most n ≡ true → (n % width ≡ 0) × (n / width ≤ most)
-  unfolding wholeRecords
-  records-are e = let h = both (eqb (n % width) 0) (leb (n / width) most) e in (eqb-true (n % width) 0 (h .0), leb-true (n / width) most (h .1))
-
 -- the three are right
 pub record Sized (items tanks : List ℤ) (rows : List ℕ) : Type 0 where
   pub items-whole : wholeRecords 4 32 (length items) ≡ true
@@ -159,7 +156,7 @@ module _ (items tanks : List ℤ) (rows : List ℕ) where
           after-all = rows-passed ∙ rw (← o, le-ltb outside (length items) inside) (simp chosen)
 
           all-inside : firstOutside item items ≡ length items
-          all-inside = omega (arith, o, first-le item items)
+          all-inside = omega (arith, o, outside-le item items)
 
           pub loadable : Loadable items tanks rows (length rows / 7)
           loadable =

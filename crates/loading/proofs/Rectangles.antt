@@ -3,8 +3,8 @@
 --     surface-slack                    rounded up where it is slack
 --     parts-most, surface-most         how large it can be
 -- Assumes nothing.
-use mathlib.Core.Path.{_≡_, refl, sym, ap, _∙_}
-use mathlib.Core.Bool.{Bool, true, false, _&&_}
+use mathlib.Core.Path.{_≡_, sym, ap, _∙_}
+use mathlib.Core.Bool.{and-false}
 use Prim.Native.Nat.{ℕ, _*_, _^_, _≤_, _<_}
 use native.Mathlib.Nat.{mul-le-mul, pow-le-pow-left}
 use native.Mathlib.Omega.{arith}
@@ -17,10 +17,6 @@ use Rattle.loading.specs.Aboard.{RoomOf}
 use Rattle.loading.specs.Load.{Tank}
 use Rattle.loading.specs.Paper.{slack, rectangleParts, rectangle}
 use Rattle.loading.specs.Rules.{surfaceOf}
-
-and-false : (b : Bool) → b && false ≡ false
-and-false true = refl
-and-false false = refl
 
 pub parts-most : {length breadth density : ℕ} → RoomOf length breadth density → length * breadth ^ 3 * density ≤ 640_000_000 * 12_000_000_000
 parts-most r = mul-le-mul (mul-le-mul (r .length-most) (pow-le-pow-left (r .breadth-most) 3)) (r .density-most)

@@ -1,6 +1,5 @@
 -- What a table's ranges say of a record in it.
---     within-size       a number in its range is no further from 0 than the range's greatest
---     field-most        so each number of a table that has none outside
+--     field-most        a number of a table that has none outside is no further from 0 than its range's greatest
 --     item-stowed, item-stowed-in      an item, and as its numbers are read
 --     eightAt, part-eight              the eight numbers of a tank, and as a part of the table
 --     tank-fits                        a tank with no number outside
@@ -8,21 +7,19 @@
 --     trial-refused, trial-passed, trial-end        and of all
 -- Assumes nothing.
 use mathlib.Core.Path.{_≡_, refl, sym, ap, subst, _∙_}
-use mathlib.Core.Bool.{true}
 use mathlib.Core.List.{List, [], _∷_}
-use Prim.Native.Nat.{ℕ, suc, _+_, _-_, _*_, _%_, _≤_, _<_}
+use Prim.Native.Nat.{ℕ, _+_, _-_, _*_, _%_, _≤_, _<_}
 use native.Mathlib.Nat.{add-assoc, add-zero}
 use native.Mathlib.Omega.{arith}
-use borrow.Author.Tests.{leb-true, lt-ltb, le-ltb}
-use lib.IntN.{ℤ, pos, negsuc, natAbs}
+use borrow.Author.Tests.{lt-ltb, le-ltb}
+use lib.IntN.{ℤ, pos}
 use lib.ListN.{length, getD, take, drop, drop-of-length-le}
 use Rattle.arithmetic.proofs.Choice.{chosen}
-use Rattle.hydrostatics.proofs.InRows.{first-le}
-use Rattle.ranges.specs.Fields.{Range, _to_, ±_, within, most, rangeOf, item, tank}
+use Rattle.ranges.specs.Fields.{Range, _to_, most, rangeOf, item, tank}
 use Rattle.ranges.specs.Outcome.{answered, refused, andThen}
 use Rattle.ranges.specs.Outside.{firstOutside}
 use Rattle.ranges.specs.Refusals.{outOfRange, contentsAboveCapacity}
-use Rattle.ranges.proofs.Facts.{within-whole, within-natural, all-within}
+use Rattle.ranges.proofs.Facts.{within-size, all-within}
 use Rattle.loading.specs.Aboard.{numberAt, sizeAt, itemAt, tankAt, Stowed, StowedItem, StowedIn, ItemsFit, RoomOf, TankFits, altogether, ofTank, tanksAboard, TrialReach, TanksTried}
 use Rattle.loading.specs.Condition.{tanksFrom}
 use Rattle.loading.specs.Records.{tanksOf}
@@ -31,22 +28,16 @@ use Rattle.loading.specs.declared.tanks.Trial.{Trial}
 use Rattle.loading.specs.declared.tanks.Trial.the-variants.{Passed, Refused}
 use Rattle.loading.proofs.Walks.{drop-eight}
 
-pub within-size : (r : Range) (v : ℤ) → within r v ≡ true → natAbs v ≤ most r
-unfolding within
-within-size r (pos n) e = within-whole r n e .1
-within-size (a to b) (negsuc n) e = let z : _≡_ {A = ℕ} 0 1 = cc in absurd (omega arith)
-within-size (± b) (negsuc n) e = leb-true (suc n) b e
-
-module _ (section : List Range) (numbers : List ℤ) (inside : firstOutside section numbers ≡ length numbers) where
+module _ (section : List Range) (numbers : List ℤ) (inside : length numbers ≤ firstOutside section numbers) where
   pub field-most : (k : ℕ) → k < length numbers → sizeAt numbers k ≤ most (getD section (k % length section) (1 to 0))
-  field-most k h = within-size (getD section (k % length section) (1 to 0)) (numberAt numbers k) (all-within section numbers inside k h)
+  field-most k h = within-size (getD section (k % length section) (1 to 0)) (numberAt numbers k) (all-within section numbers inside k h) .1
 
 module _ (table : List ℤ) (i : ℕ) (fit : ItemsFit table) (start : i % 4 ≡ 0) (there : i < length table) where
   -- number j of the item at place i
   item-number : (j : ℕ) → j < 4 → sizeAt table (i + j) ≤ most (getD item j (1 to 0))
   item-number j h =
       let e : (i + j) % 4 ≡ j = omega arith in
-      subst (λ f. sizeAt table (i + j) ≤ most (getD item f (1 to 0))) e (field-most item table (fit .in-range) (i + j) (omega arith))
+      subst (λ f. sizeAt table (i + j) ≤ most (getD item f (1 to 0))) e (field-most item table (omega (arith, fit .in-range)) (i + j) (omega arith))
 
   pub item-stowed : StowedItem (itemAt table i)
   item-stowed = record {
@@ -85,12 +76,9 @@ module _ (table : List ℤ) (i : ℕ) (there : i + 8 ≤ length table) where
     unfolding tanksFrom
     tank-passed h = rw (drop-eight table (pos 0) i there, le-ltb _ _ inside, le-ltb _ _ h) (simp chosen)
 
-    all-inside : firstOutside tank (eightAt table i) ≡ 8
-    all-inside = omega (arith, first-le tank (eightAt table i))
-
     pub tank-fits : TankFits (tankAt table i)
     tank-fits =
-        let most-of = field-most tank (eightAt table i) all-inside in
+        let most-of = field-most tank (eightAt table i) inside in
         record {
           stowed = record { kg-most = most-of 0 (omega arith); x-most = most-of 2 (omega arith); y-most = most-of 3 (omega arith); z-most = most-of 4 (omega arith) };
           room = record { length-most = most-of 5 (omega arith); breadth-most = most-of 6 (omega arith); density-most = most-of 7 (omega arith) };

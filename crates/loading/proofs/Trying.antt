@@ -25,7 +25,8 @@ use Rattle.ranges.specs.Fields.{_to_, within}
 use Rattle.ranges.specs.Outcome.{answered, refused, andThen}
 use Rattle.ranges.specs.Outside.{firstOutside}
 use Rattle.ranges.specs.Refusals.{rowsNotUsable}
-use Rattle.hydrostatics.proofs.InRows.{inside, row-in-range}
+use Rattle.ranges.proofs.Facts.{whole-within}
+use Rattle.hydrostatics.proofs.InRows.{row-in-range}
 use Rattle.loading.specs.Afloat.{RowsTried}
 use Rattle.loading.proofs.Usability.{seven-are}
 
@@ -56,7 +57,7 @@ module _ (rows : List ℕ) (r : ℕ) {first : ℕ} (e : first ≡ rowIn rows 0 .
 
     pub spaced-by : {draft : ℕ} → draft ≡ rowIn rows r .draft → 10 ≤ first / 2 → first / 2 ≤ 500 → spaced rows r ≡ eqb draft ((r + 2) * (first / 2))
     unfolding spaced
-    spaced-by d h k = rw (← e, ← d, eq-eqb (2 * (first / 2)) first even, inside 10 500 (first / 2) (h, k))
+    spaced-by d h k = rw (← e, ← d, eq-eqb (2 * (first / 2)) first even, whole-within 10 500 (first / 2) (h, k))
 
 -- ---- the displacement
 module _ (rows : List ℕ) where

@@ -2,23 +2,20 @@
 --     paper-injective               two answers with the paper's same number and values are the same
 --     makes-condition-unique        so two answers that both keep one promise are equal
 -- Assumes nothing.
-use mathlib.Core.Path.{_≡_, sym, ap₂, _∙_}
+use mathlib.Core.Path.{_≡_, sym, ap, _∙_}
 use mathlib.Core.List.{List}
 use Prim.Native.Nat.{ℕ}
-use native.Mathlib.Omega.{arith}
 use lib.IntN.{ℤ}
+use Rattle.ranges.proofs.Outcomes.{refused-not, refusal-same}
 use Rattle.loading.specs.Promise.{paper, MakesCondition}
 use Rattle.loading.specs.declared.Answer.{Answer}
 use Rattle.loading.specs.declared.Answer.the-variants.{Laden, Refused}
 
 pub paper-injective : (a b : Answer) → paper a ≡ paper b → a ≡ b
 paper-injective (Laden c) (Laden d) e = cc
-paper-injective (Laden c) (Refused r) e = let z : _≡_ {A = ℕ} 0 1 = cc in absurd (omega arith)
-paper-injective (Refused r) (Laden d) e = let z : _≡_ {A = ℕ} 0 1 = cc in absurd (omega arith)
-paper-injective (Refused r) (Refused s) e =
-    let n : r .number ≡ s .number = cc in
-    let p : r .place ≡ s .place = cc in
-    ap₂ (λ n p. Refused (record { number = n; place = p })) n p
+paper-injective (Laden c) (Refused r) e = refused-not (sym e)
+paper-injective (Refused r) (Laden d) e = refused-not e
+paper-injective (Refused r) (Refused s) e = ap Refused (refusal-same r s e)
 
 pub makes-condition-unique : {least limit : ℕ} {items tanks : List ℤ} {rows : List ℕ} {a b : Answer} → MakesCondition least limit items tanks rows a → MakesCondition least limit items tanks rows b → a ≡ b
 makes-condition-unique {a = a} {b = b} m n = paper-injective a b (m .answer-is ∙ sym (n .answer-is))

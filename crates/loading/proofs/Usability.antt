@@ -19,6 +19,7 @@ use lib.Dec.{ltb, eqb}
 use lib.IntN.{pos}
 use lib.ListN.{length}
 use Rattle.arithmetic.specs.Choice.{if_then_else_}
+use Rattle.arithmetic.proofs.Tests.{both}
 use Rattle.hydrostatics.specs.Row.{numbersOf, rowRanges, highestMetacentre, waterlineOf}
 use Rattle.hydrostatics.specs.Usable.{seven, rowIn, spacing, inRange, spaced, rises, metacentreFits, usableRow, usableUpTo}
 use Rattle.ranges.specs.Fields.{_to_, within}
@@ -26,11 +27,11 @@ use Rattle.ranges.specs.Outcome.{Outcome, answered, refused, andThen}
 use Rattle.ranges.specs.Outside.{firstOutside}
 use Rattle.ranges.specs.Refusals.{rowsNotUsable}
 use Rattle.ranges.proofs.Facts.{within-whole}
+use Rattle.ranges.proofs.Outcomes.{was-passed, answered-then}
 use Rattle.hydrostatics.proofs.InRows.{RowInRange, row-in-range}
 use Rattle.loading.specs.Afloat.{RowsWhole, RowsUsable}
 use Rattle.loading.specs.Straight.{Waterlines, last, next, Usable}
 use Rattle.loading.specs.Table.{tableOf, rowsFrom}
-use Rattle.loading.proofs.Outcomes.{both, answered-then, was-passed}
 use Rattle.loading.proofs.Walks.{take-seven}
 
 module _ (rows : List ℕ) where
@@ -42,8 +43,8 @@ module _ (rows : List ℕ) where
   unfolding usableUpTo
   usable-row zero n e r h = absurd (omega arith)
   usable-row (suc count) n e r h =
-      let before = answered-then (usableUpTo rows count) _ e in
-      let here = was-passed (usableRow rows count) rowsNotUsable count (answered (suc count)) (before .2) in
+      let before = answered-then e in
+      let here = was-passed rowsNotUsable count (before .2) in
       by-order (λ m. usable-row count (before .0) (before .1) r m) (here .0) (decLt r count)
     where
       by-order : (r < count → usableRow rows r ≡ true) → usableRow rows count ≡ true → Dec (r < count) → usableRow rows r ≡ true
@@ -55,8 +56,8 @@ module _ (rows : List ℕ) where
   unfolding usableUpTo
   usable-count zero n e = refl
   usable-count (suc count) n e =
-      let before = answered-then (usableUpTo rows count) _ e in
-      let here = was-passed (usableRow rows count) rowsNotUsable count (answered (suc count)) (before .2) in
+      let before = answered-then e in
+      let here = was-passed rowsNotUsable count (before .2) in
       e ∙ sym (here .1)
 
   -- a usable row in numbers

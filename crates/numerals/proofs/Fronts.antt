@@ -121,16 +121,16 @@ front-of-number t rest e n = go (sign-of t) e
         ∙ digits-stop 10 l rest (omega arith) (w .all) n
 
 -- ---- a token in a text
+none-not-ends : {v : ℤ} {i : ℕ} → _≡_ {A = Numeral} None (Ends v i) → ⊥
+none-not-ends e = let z : _≡_ {A = ℕ} 0 1 = cc in omega arith
+
 pub ends-parts : {stop stop' : ℕ} {v : ℤ} (n : Number) → endsAt stop n ≡ Ends v stop' → (n ≡ Is v) × (stop ≡ stop')
 unfolding endsAt
 ends-parts (Is w) e = (cc, cc)
-ends-parts Not e = let z : _≡_ {A = ℕ} 0 1 = cc in absurd (omega arith)
+ends-parts Not e = absurd (none-not-ends e)
 
 ends-same : {v w : ℤ} {i j : ℕ} → _≡_ {A = Numeral} (Ends v i) (Ends w j) → i ≡ j
 ends-same e = cc
-
-none-not-ends : {v : ℤ} {i : ℕ} → _≡_ {A = Numeral} None (Ends v i) → ⊥
-none-not-ends e = let z : _≡_ {A = ℕ} 0 1 = cc in omega arith
 
 module _ (text : List ℕ) (at : ℕ) (t rest : List ℕ) (stands : drop at text ≡ t ++ rest) where
   pub numeral-of-number : {v : ℤ} → numberOf t ≡ Is v → NoDigit rest → numeralAt text at ≡ Ends v (at + length t)

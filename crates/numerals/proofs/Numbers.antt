@@ -4,7 +4,7 @@
 --     said-is, said-not, said-zero         what digits say: whole ones their value with its sign; others nothing; nor does a minus zero
 --     said-parts                           digits that say a number are whole, and it is their value with its sign
 --     said-lt, number-lt                   a number that is said is below 1,000,000,000, whatever its sign
---     mag-le, number-back                  so 64 bits hold it
+--     number-back                          so 64 bits hold it
 --     not-number                           a token that says no number says `Not`
 -- Assumes nothing.
 use Prim.Native.Nat.{ℕ, zero, suc, _^_, _≤_, _<_}
@@ -15,12 +15,11 @@ use native.Mathlib.Nat.{pow-le-pow-right, lt-of-lt-of-le}
 use native.Mathlib.Omega.{arith}
 use borrow.Author.Tests.{eqb-true, eqb-false, eq-eqb, ne-eqb}
 use lib.Dec.{eqb, lit<}
-use lib.IntN.{ℤ, pos, negsuc, natAbs}
+use lib.IntN.{ℤ, natAbs}
 use lib.ListN.{length, getD}
-use lib.Signed.{mag}
 use Rattle.arithmetic.specs.Choice.{if_then_else_}
 use Rattle.arithmetic.proofs.Choice.{chosen}
-use Rattle.arithmetic.proofs.Crossing.{back, back-is}
+use Rattle.arithmetic.proofs.Crossing.{back, back-is, mag-le}
 use Rattle.numerals.specs.Number.{minus, isWhole, value, allDigits, numberOf}
 use Rattle.numerals.specs.Sign.{withSign, saidBy}
 use Rattle.numerals.specs.declared.reading.Number.{Number}
@@ -93,10 +92,6 @@ number-lt t e = go (sign-of t) e
     go : {t : List ℕ} → Signed t → {v : ℤ} → numberOf t ≡ Is v → natAbs v < 1_000_000_000
     go (after-minus l) e = said-lt true l (sym (number-of-minus l) ∙ e)
     go (plain {l} h) e = said-lt false l (sym (number-of-plain l h) ∙ e)
-
-pub mag-le : (v : ℤ) → mag v ≤ natAbs v
-mag-le (pos n) = omega arith
-mag-le (negsuc n) = omega arith
 
 -- such a number is held by 64 bits, and read back from them
 pub number-back : (t : List ℕ) {v : ℤ} → numberOf t ≡ Is v → back v ≡ v

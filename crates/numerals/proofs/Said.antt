@@ -17,7 +17,7 @@ use lib.ListN.{length, take, drop, getD, drop-of-length-le}
 use lib.Seq.{getD-drop}
 use mir.Val.{boolByte}
 use Rattle.arithmetic.specs.Signed.{nearest}
-use Rattle.arithmetic.proofs.Crossing.{back, nearest-back, nearest-of-small}
+use Rattle.arithmetic.proofs.Crossing.{back, mag-le, nearest-back, nearest-of-small}
 use Rattle.arithmetic.proofs.Parts.{drop-step}
 use Rattle.numerals.specs.Number.{minus, isWhole, value, numberOf}
 use Rattle.numerals.specs.Front.{front, endsAt, numeralAt}
@@ -26,7 +26,7 @@ use Rattle.numerals.specs.declared.reading.Digits.{Digits}
 use Rattle.numerals.specs.declared.reading.Number.the-variants.{Is, Not}
 use Rattle.numerals.specs.declared.reading.Numeral.the-variants.{Ends, None}
 use Rattle.numerals.proofs.Wholes.{first-not-minus}
-use Rattle.numerals.proofs.Numbers.{number-of-minus, number-of-plain, said-is, said-not, said-zero, said-lt, mag-le}
+use Rattle.numerals.proofs.Numbers.{number-of-minus, number-of-plain, said-is, said-not, said-zero, said-lt}
 use Rattle.numerals.proofs.Fronts.{digits-prefix, all-of-digits, front-of-minus, front-of-plain}
 
 module _ {text : List ℕ} {from : ℕ} {r : Digits} (d : DigitsFrom text from r) where

@@ -1,5 +1,6 @@
 -- What the reader answers, and what it leaves in the tables.
 --     half-short, items-short, tanks-short, too-long      the refusals before the first token
+--     on-file                                             past them, the reader answers what the file says
 --     file-refused                                        a refusal of the file
 --     sheet                                               a whole file, copied into the tables
 -- Assumes nothing.
@@ -47,7 +48,7 @@ module _ (text h₀ : List ℕ) (i₀ t₀ : List ℤ) where
       too-long tanks h = refusal fileTooLong longestFile (unfold readerOf in simp (le-ltb (length h₀) roomForHalfBreadths half, le-ltb (length i₀) roomForItems items, le-ltb (length t₀) roomForTanks tanks, lt-ltb longestFile (length text) h, chosen))
 
   module _ (sized : Sized text h₀ i₀ t₀) where
-    on-file : readerOf text (length h₀) (length i₀) (length t₀) ≡ file (length text) (tokens text)
+    pub on-file : readerOf text (length h₀) (length i₀) (length t₀) ≡ file (length text) (tokens text)
     unfolding readerOf
     on-file = simp (le-ltb (length h₀) roomForHalfBreadths (sized .half-breadth-room), le-ltb (length i₀) roomForItems (sized .item-room), le-ltb (length t₀) roomForTanks (sized .tank-room), le-ltb longestFile (length text) (sized .text-length), chosen)
 

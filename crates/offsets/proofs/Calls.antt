@@ -1,11 +1,12 @@
 -- The round trip for the two calls, over what they promise: whatever keeps the promises gives back what it was given.
---     Rooms                     tables that the reader can fill from any file
---     ReadBack                  a reader's answer and tables that say these particulars and tables
---     write-then-read           what was written is read back
---     WrittenAgain              a writer's answer whose text is read back so
---     read-then-write           what was read can be written, and is read back
+--     Rooms                           tables that the reader can fill from any file
+--     ReadBack                        a reader's answer and tables that say these particulars and tables
+--     write-then-read                 what was written is read back
+--     ReadContents, contents-read     what a reader with a summary read: sound contents, which stand in front of its tables
+--     WrittenAgain                    a writer's answer whose text is read back so
+--     read-then-write                 what was read can be written, and is read back
 -- Assumes nothing.
-use mathlib.Core.Path.{_≡_, refl, ap, _∙_}
+use mathlib.Core.Path.{_≡_, refl, sym, ap, _∙_}
 use mathlib.Core.List.{List, [], _∷_, _++_, map}
 use Prim.Native.Nat.{ℕ, _*_, _/_, _≤_}
 use native.Mathlib.Omega.{arith}
@@ -16,6 +17,7 @@ use Rattle.ranges.specs.Fields.{item, tank}
 use Rattle.ranges.specs.Outcome.{Outcome, answered, refused}
 use Rattle.ranges.specs.Sizes.{longestFile, pointsOf, roomForHalfBreadths, roomForItems, roomForTanks}
 use Rattle.ranges.specs.declared.Particulars.{Particulars}
+use Rattle.ranges.proofs.Outcomes.{refused-not, not-refused}
 use Rattle.offsets.specs.File.{Contents}
 use Rattle.offsets.specs.Reader.{Reads, readerOf, particularsOf, summarised, filled, summaryOf}
 use Rattle.offsets.specs.Tokens.{tokens}
@@ -26,10 +28,10 @@ use Rattle.offsets.specs.declared.Read.the-variants.{Sheet}
 use Rattle.offsets.specs.declared.Summary.{Summary}
 use Rattle.offsets.specs.declared.Written.{Written}
 use Rattle.offsets.specs.declared.Written.the-variants.{Wrote}
-use Rattle.offsets.proofs.RoundTrip.{contentsOf, written-is-read, reader-opens, read-is-written}
+use Rattle.offsets.proofs.Answers.{on-file}
+use Rattle.offsets.proofs.RoundTrip.{contentsOf, written-is-read, read-is-written}
 use Rattle.offsets.proofs.Sound.{Sound, recordsIn, length-of-half-breadths, length-of-items, length-of-tanks, file-sound}
-use Rattle.offsets.proofs.Tried.{went-on}
-use Rattle.offsets.proofs.Unique.{read-paper-injective, written-paper-injective, no-refusal}
+use Rattle.offsets.proofs.Unique.{read-paper-injective, written-paper-injective}
 
 pub record Rooms (h : List ℕ) (i t : List ℤ) : Type 0 where
   pub half-breadth-room : roomForHalfBreadths ≤ length h
@@ -67,7 +69,7 @@ module _ {p : Particulars} {h : List ℕ} {i t : List ℤ} {room roomLeft : List
   text-of (answered text) e n l =
       let long : length text ≡ count = cc n in
       record { text = text; written = e; stands = rw l (take-at text (drop (length text) room) count long) }
-  text-of (refused why place) e n l = no-refusal n
+  text-of (refused why place) e n l = refused-not (sym n)
 
   text-of-writes : Writes p h i t room roomLeft (Wrote count) → Text p h i t room roomLeft count
   text-of-writes w = text-of (writerOf p h i t (length room)) refl (w .answer-is) (w .left)
@@ -82,7 +84,7 @@ pub write-then-read : {p : Particulars} {h : List ℕ} {i t : List ℤ} {room ro
 write-then-read {p} {h} {i} {t} {room} {h₀ = h₀} {i₀ = i₀} {t₀ = t₀} w rooms r =
     let x = text-of-writes w in
     let back = written-is-read p h i t (length room) (x .written) in
-    let opened = reader-opens (x .text) (length h₀) (length i₀) (length t₀) (back .0) (rooms .half-breadth-room) (rooms .item-room) (rooms .tank-room) in
+    let opened = on-file (x .text) h₀ i₀ t₀ (record { text-length = back .0; half-breadth-room = rooms .half-breadth-room; item-room = rooms .item-room; tank-room = rooms .tank-room }) in
     rw (sizes-again h) at (reads-contents (contentsOf p h i t) (opened ∙ back .1) (rw (x .stands) at r))
 
 -- ---- from the reader to the writer
@@ -111,48 +113,56 @@ rewritten c s {room} {answer = answer} w l =
     let e : answer ≡ Wrote (length text) = written-paper-injective answer (Wrote (length text)) (w .answer-is ∙ ap lengthOf (read-is-written c s (length room) l)) in
     record { count = length text; answer-is = e; read-back = λ rooms r. write-then-read (rw e at w) rooms r }
 
--- contents that a reader read to answer a summary
-pub record Read-contents (text : List ℕ) (h i t : ℕ) (summary : Summary) : Type 0 where
-  pub contents : Contents
-  pub read : readerOf text h i t ≡ answered contents
-  pub summary-is : summaryOf contents ≡ summary
-
-module _ {text : List ℕ} {h i t : ℕ} {summary : Summary} where
-  contents-read : (o : Outcome Contents) → readerOf text h i t ≡ o → answered summary ≡ summarised o → Read-contents text h i t summary
-  unfolding summarised
-  contents-read (answered c) e n = record { contents = c; read = e; summary-is = cc n }
-  contents-read (refused why place) e n = no-refusal n
+-- a summary is that of the contents that were read
+summed : {summary : Summary} (o : Outcome Contents) → answered summary ≡ summarised o → (c : Contents) × (o ≡ answered c) × (summary ≡ summaryOf c)
+unfolding summarised
+summed (answered c) e = (c, refl, cc e)
+summed (refused why place) e = refused-not (sym e)
 
 reader-sound : (text : List ℕ) (h i t : ℕ) {c : Contents} → readerOf text h i t ≡ answered c → Sound c
 unfolding readerOf
 reader-sound text h i t e =
-    let a = went-on _ _ _ e in
-    let b = went-on _ _ _ (a .1) in
-    let d = went-on _ _ _ (b .1) in
-    let f = went-on _ _ _ (d .1) in
+    let a = not-refused _ _ e in
+    let b = not-refused _ _ (a .1) in
+    let d = not-refused _ _ (b .1) in
+    let f = not-refused _ _ (d .1) in
     file-sound (length text) (tokens text) (f .1)
 
--- the fronts of the tables are what was read
+-- the contents that a reader read to answer a summary: they are sound, and the fronts of its tables
+pub record ReadContents (text h₀ h' : List ℕ) (i₀ i' t₀ t' : List ℤ) (summary : Summary) : Type 0 where
+  pub contents : Contents
+  pub read : readerOf text (length h₀) (length i₀) (length t₀) ≡ answered contents
+  pub summary-is : summary ≡ summaryOf contents
+  pub sound : Sound contents
+  pub half-breadths-are : halfBreadthsRead (summaryOf contents) h' ≡ map natAbs (contents .halfBreadths)
+  pub items-are : itemsRead (summaryOf contents) i' ≡ contents .items
+  pub tanks-are : tanksRead (summaryOf contents) t' ≡ contents .tanks
+
 front-of : {A : Type 0} (read was after : List A) (n : ℕ) → length read ≡ n → after ≡ read ++ drop (length read) was → take n after ≡ read
 front-of read was after n e l = rw l (take-at read (drop (length read) was) n e)
 
-module _ (c : Contents) (s : Sound c) {h₀ h' : List ℕ} {i₀ i' t₀ t' : List ℤ} {read : Read}
-    (b : ReadBack (summaryOf c) (map natAbs (c .halfBreadths)) (c .items) (c .tanks) h₀ h' i₀ i' t₀ t' read) {room roomLeft : List ℕ} {answer : Written} where
-  written-from : longestFile ≤ length room
-      → Writes (particularsOf (c .hull)) (halfBreadthsRead (summaryOf c) h') (itemsRead (summaryOf c) i') (tanksRead (summaryOf c) t') room roomLeft answer
-      → WrittenAgain (summaryOf c) (halfBreadthsRead (summaryOf c) h') (itemsRead (summaryOf c) i') (tanksRead (summaryOf c) t') roomLeft answer
-  written-from l w =
-      let half : halfBreadthsRead (summaryOf c) h' ≡ map natAbs (c .halfBreadths) = front-of (map natAbs (c .halfBreadths)) h₀ h' _ (length-map (c .halfBreadths) natAbs ∙ length-of-half-breadths c s) (b .half-breadths-are) in
-      let items : itemsRead (summaryOf c) i' ≡ c .items = front-of (c .items) i₀ i' (4 * recordsIn item (c .items)) (omega (arith, length-of-items c s)) (b .items-are) in
-      let tanks : tanksRead (summaryOf c) t' ≡ c .tanks = front-of (c .tanks) t₀ t' (8 * recordsIn tank (c .tanks)) (omega (arith, length-of-tanks c s)) (b .tanks-are) in
-      rw (half, items, tanks) (rewritten c s (rw (half, items, tanks) at w) l)
+pub contents-read : {text h₀ h' : List ℕ} {i₀ i' t₀ t' : List ℤ} {summary : Summary} → Reads text h₀ h' i₀ i' t₀ t' (Sheet summary) → ReadContents text h₀ h' i₀ i' t₀ t' summary
+contents-read {text} {h₀} {h'} {i₀} {i'} {t₀} {t'} r =
+    let x = summed (readerOf text (length h₀) (length i₀) (length t₀)) (r .answer-is) in
+    let c = x .0 in
+    let s = reader-sound text (length h₀) (length i₀) (length t₀) (x .1) in
+    let b = reads-contents c (x .1) r in
+    record {
+      contents = c;
+      read = x .1;
+      summary-is = x .2;
+      sound = s;
+      half-breadths-are = front-of (map natAbs (c .halfBreadths)) h₀ h' _ (length-map (c .halfBreadths) natAbs ∙ length-of-half-breadths c s) (b .half-breadths-are);
+      items-are = front-of (c .items) i₀ i' (4 * recordsIn item (c .items)) (omega (arith, length-of-items c s)) (b .items-are);
+      tanks-are = front-of (c .tanks) t₀ t' (8 * recordsIn tank (c .tanks)) (omega (arith, length-of-tanks c s)) (b .tanks-are);
+    }
 
 pub read-then-write : {text h₀ h' : List ℕ} {i₀ i' t₀ t' : List ℤ} {summary : Summary} {room roomLeft : List ℕ} {answer : Written}
     → Reads text h₀ h' i₀ i' t₀ t' (Sheet summary) → longestFile ≤ length room
     → Writes (summary .particulars) (halfBreadthsRead summary h') (itemsRead summary i') (tanksRead summary t') room roomLeft answer
     → WrittenAgain summary (halfBreadthsRead summary h') (itemsRead summary i') (tanksRead summary t') roomLeft answer
-read-then-write {text} {h₀} {h'} {i₀} {i'} {t₀} {t'} {summary} r l w =
-    let x = contents-read (readerOf text (length h₀) (length i₀) (length t₀)) refl (r .answer-is) in
-    let c = x .contents in
-    let s = reader-sound text (length h₀) (length i₀) (length t₀) (x .read) in
-    rw (← x .summary-is) (written-from c s (reads-contents c (x .read) r) l (rw (← x .summary-is) at w))
+read-then-write r l w =
+    let x = contents-read r in
+    rw (x .summary-is)
+    (rw (x .half-breadths-are, x .items-are, x .tanks-are)
+    (rewritten (x .contents) (x .sound) (rw (x .half-breadths-are, x .items-are, x .tanks-are) at (rw (x .summary-is) at w)) l))

@@ -4,7 +4,7 @@
 -- Assumes nothing.
 use mathlib.Core.Path.{_≡_, refl, sym, ap, ap₂, _∙_, fun-ext}
 use mathlib.Core.Bool.{Bool, true, false}
-use mathlib.Core.List.{List, [], _∷_, _++_, append-assoc}
+use mathlib.Core.List.{List, _∷_, _++_, append-assoc}
 use Prim.Native.Nat.{ℕ, zero, suc, _+_, _*_, _%_, _≤_, _<_}
 use native.Mathlib.Nat.{mul-suc, mul-zero, mul-le-mul, mod-add-mod, mod-self, zero-mod, suc-add, zero-add, add-zero}
 use native.Mathlib.Omega.{arith}
@@ -14,10 +14,11 @@ use lib.Seq.{getD-take}
 use Rattle.arithmetic.specs.Choice.{if_then_else_}
 use Rattle.arithmetic.proofs.Choice.{chosen, if-either}
 use Rattle.ranges.specs.Fields.{Range, rangeOf, within, particulars, halfBreadth, item, tank}
-use Rattle.ranges.specs.Outcome.{Outcome, answered, refused, andThen}
+use Rattle.ranges.specs.Outcome.{Outcome, answered, andThen}
 use Rattle.ranges.specs.Sizes.{pointsOf, mostItems, mostTanks, roomForHalfBreadths}
 use Rattle.ranges.specs.declared.Refusal.{Refusal}
-use Rattle.ranges.proofs.Facts.{within-whole}
+use Rattle.ranges.proofs.Facts.{within-whole, within-positive}
+use Rattle.ranges.proofs.Outcomes.{refused-not, then-assoc}
 use Rattle.offsets.specs.File.{Contents, records, points, section, complete, file}
 use Rattle.offsets.specs.Reading.{one, count, numbers}
 use Rattle.offsets.specs.Steps.{tokensAt, onStep, onNumbers, onEnd, countOf, rangesFrom, pointsIn, Counts, ReadsAfter, Finishes, onParsed, Fits, Parses}
@@ -25,12 +26,8 @@ use Rattle.offsets.specs.Tokens.{Token, tokens, tokensFrom}
 use Rattle.offsets.specs.declared.reading.Step.{Step}
 use Rattle.offsets.specs.declared.reading.Step.the-variants as S
 use Rattle.offsets.specs.declared.reader.Parsed.the-variants as P
-use Rattle.offsets.proofs.Within.{Took, took, within-positive, refused-not}
-
-assoc : {A B C : Type 0} (m : Outcome A) (f : A → Outcome B) (g : B → Outcome C) → andThen (andThen m f) g ≡ andThen m (λ a. andThen (f a) g)
-unfolding andThen
-assoc (answered a) f g = refl
-assoc (refused number place) f g = refl
+use Rattle.offsets.proofs.InRanges.{in-ranges-length, in-ranges-at}
+use Rattle.offsets.proofs.Within.{numbers-within}
 
 -- ---- the ranges of whole records
 -- the fields go round: a whole record on, the same ranges
@@ -84,11 +81,11 @@ module _ (text : List ℕ) where
       let len = length text in
       let ranges : rangesFrom first width n 0 ≡ records (countOf counted) fields = rw (e, ← f) (ranges-of-records first width (countOf counted)) in
       let read : andThen (onStep text counted) (λ at. numbers len (records (countOf counted) fields) (at .1)) ≡ onNumbers text (take n after) r = rw ranges at h in
-      ap (λ k. andThen (onStep text s) k) (fun-ext (λ at. assoc (count len least most (at .1)) _ _))
-      ∙ sym (assoc (onStep text s) (λ at. count len least most (at .1)) _)
+      ap (λ k. andThen (onStep text s) k) (fun-ext (λ at. then-assoc (count len least most (at .1)) _ _))
+      ∙ sym (then-assoc (onStep text s) (λ at. count len least most (at .1)) _)
       ∙ ap (λ m. andThen m (λ k. andThen (numbers len (records (k .0) fields) (k .1)) (λ read. next (read .0) (read .1)))) (c .read)
       ∙ count-step counted (λ k ts. andThen (numbers len (records k fields) ts) (λ read. next (read .0) (read .1)))
-      ∙ sym (assoc (onStep text counted) (λ at. numbers len (records (countOf counted) fields) (at .1)) _)
+      ∙ sym (then-assoc (onStep text counted) (λ at. numbers len (records (countOf counted) fields) (at .1)) _)
       ∙ ap (λ m. andThen m (λ read. next (read .0) (read .1))) read
       ∙ numbers-step (take n after) r next
 
@@ -99,11 +96,9 @@ module _ (len : ℕ) (hull : List ℤ) where
 
   first-two : (ts rest : List Token) → numbers len particulars ts ≡ answered (take 5 hull, rest) → (within (rangeOf 0) (getD hull 0 (pos 0)) ≡ true) × (within (rangeOf 1) (getD hull 1 (pos 0)) ≡ true)
   first-two ts rest h =
-      let a = took len (rangeOf 0) (rangeOf 1 ∷ rangeOf 2 ∷ rangeOf 3 ∷ rangeOf 4 ∷ []) ts (take 5 hull) rest h in
-      let b = took len (rangeOf 1) (rangeOf 2 ∷ rangeOf 3 ∷ rangeOf 4 ∷ []) (a .after) (a .others) rest (a .others-read) in
-      let n : getD hull 0 (pos 0) ≡ a .first = sym (front-at 0 (omega arith)) ∙ ap (λ l. getD l 0 (pos 0)) (a .are) in
-      let m : getD hull 1 (pos 0) ≡ b .first = sym (front-at 1 (omega arith)) ∙ ap (λ l. getD l 1 (pos 0)) (a .are) ∙ ap (λ l. getD l 0 (pos 0)) (b .are) in
-      (rw n (a .first-in), rw m (b .first-in))
+      let r = numbers-within len particulars ts h in
+      let five = in-ranges-length r in
+      (rw (front-at 0 (omega arith)) at (in-ranges-at r 0 (omega arith)), rw (front-at 1 (omega arith)) at (in-ranges-at r 1 (omega arith)))
 
   points-of-front : points (take 5 hull) ≡ points hull
   points-of-front = rw (front-at 0 (omega arith), front-at 1 (omega arith))
@@ -207,7 +202,7 @@ module _ (text : List ℕ) (hull half items tanks : List ℤ) (five hullRead gri
 
     with-hull : andThen (onStep text five) (λ at. andThen (numbers len particulars (at .1)) (λ read. after-hull (read .0) (points (read .0)) (read .1))) ≡ andThen (onStep text hullRead) (λ at. after-hull (take 5 hull) (points (take 5 hull)) (at .1))
     with-hull =
-        sym (assoc (onStep text five) (λ at. numbers len particulars (at .1)) (λ read. after-hull (read .0) (points (read .0)) (read .1)))
+        sym (then-assoc (onStep text five) (λ at. numbers len particulars (at .1)) (λ read. after-hull (read .0) (points (read .0)) (read .1)))
         ∙ ap (λ m. andThen m (λ read. after-hull (read .0) (points (read .0)) (read .1))) hull-read
         ∙ numbers-step text (take 5 hull) hullRead (λ h ts. after-hull h (points h) ts)
 

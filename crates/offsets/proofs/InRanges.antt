@@ -2,10 +2,9 @@
 --     InRanges                             as many numbers as ranges, and each within its own
 --     in-ranges-length, in-ranges-at, in-ranges-of      the same by the places of the numbers
 --     length-of-records, records-at        the ranges of so many records, by place
---     outside-le                           the first number outside stands in the table, or after its end
 --     in-ranges-of-table, no-number-outside     a table of whole records with no number outside is in its ranges, and the other way
 --     Every, every-records                 what holds of every range of a record holds of every range of the records
---     Few, within-size, short-in-ranges    ranges whose numbers have nine digits at the most
+--     Few, short-in-ranges                 ranges whose numbers have nine digits at the most
 --     Whole, whole-in-ranges               ranges of whole numbers: each is the signed form of its size
 -- Assumes nothing.
 use mathlib.Core.Path.{_≡_, refl, sym, ap, ap₂, _∙_}
@@ -13,17 +12,15 @@ use mathlib.Core.Bool.{true}
 use mathlib.Core.Logic.{⊎-elim}
 use mathlib.Core.List.{List, [], _∷_, _++_, map}
 use Prim.Native.Nat.{ℕ, zero, suc, _+_, _-_, _*_, _%_, _≤_, _<_}
-use native.Mathlib.Nat.{suc-mul, zero-mul, add-zero, zero-add, mod-eq-of-lt, add-mod-left}
+use native.Mathlib.Nat.{suc-mul, zero-mul, mod-eq-of-lt, add-mod-left}
 use native.Mathlib.Omega.{arith}
-use borrow.Author.Tests.{leb-true}
-use lib.IntN.{ℤ, pos, negsuc, natAbs}
+use lib.IntN.{ℤ, pos, natAbs}
 use lib.ListN.{length, getD, length-append, List·getD-append}
 use lib.Seq.{getD-append-add}
-use Rattle.arithmetic.proofs.Choice.{chosen, if-either}
-use Rattle.arithmetic.proofs.Tests.{less-or-not, never}
+use Rattle.arithmetic.proofs.Tests.{less-or-not}
 use Rattle.ranges.specs.Fields.{Range, _to_, ±_, within, most}
-use Rattle.ranges.specs.Outside.{outsideFrom, firstOutside}
-use Rattle.ranges.proofs.Facts.{all-within, within-whole}
+use Rattle.ranges.specs.Outside.{firstOutside}
+use Rattle.ranges.proofs.Facts.{all-within, all-inside, within-size, within-positive}
 use Rattle.offsets.specs.File.{records}
 use Rattle.offsets.proofs.Spelled.{Short}
 
@@ -74,44 +71,16 @@ records-at (suc k) section i h =
     records-step section (records k section) (records-at k section) i (omega (arith, length-append section (records k section)))
 
 -- ---- no number outside
--- the walk goes over a number within its range
-outside-on : (section : List Range) (place : ℕ) (v : ℤ) (rest : List ℤ) → within (getD section (place % length section) (1 to 0)) v ≡ true → outsideFrom section place (v ∷ rest) ≡ outsideFrom section (place + 1) rest
-unfolding outsideFrom
-outside-on section place v rest e = rw e (simp chosen)
-
-all-inside : (section : List Range) (place : ℕ) (table : List ℤ) → ((i : ℕ) → i < length table → within (getD section ((place + i) % length section) (1 to 0)) (getD table i (pos 0)) ≡ true) → outsideFrom section place table ≡ place + length table
-unfolding outsideFrom
-all-inside section place [] h = sym (add-zero place)
-all-inside section place (v ∷ rest) h =
-    let first : within (getD section (place % length section) (1 to 0)) v ≡ true = rw add-zero at (h zero (omega arith)) in
-    outside-on section place v rest first
-    ∙ all-inside section (place + 1) rest (λ i l. let on : place + 1 + i ≡ place + suc i = omega arith in rw on (h (suc i) (omega arith)))
-    ∙ omega arith
-
-outside-from-le : (section : List Range) (place : ℕ) (table : List ℤ) → outsideFrom section place table ≤ place + length table
-unfolding outsideFrom
-outside-from-le section place [] = omega arith
-outside-from-le section place (v ∷ rest) =
-    if-either (λ (n : ℕ). n ≤ place + suc (length rest)) (within (getD section (place % length section) (1 to 0)) v)
-    (λ e. omega (arith, outside-from-le section (place + 1) rest))
-    (λ e. omega arith)
-
-pub outside-le : (section : List Range) (table : List ℤ) → firstOutside section table ≤ length table
-unfolding firstOutside
-outside-le section table = omega (arith, outside-from-le section 0 table)
-
 module _ (k : ℕ) (section : List Range) (table : List ℤ) where
   pub in-ranges-of-table : length table ≡ k * length section → length table ≤ firstOutside section table → InRanges (records k section) table
   in-ranges-of-table e h =
       let whole : length table ≡ length (records k section) = e ∙ sym (length-of-records k section) in
-      let none : firstOutside section table ≡ length table = omega (arith, outside-le section table) in
-      in-ranges-of (records k section) table whole (λ i l. rw (records-at k section i (omega arith)) (all-within section table none i l))
+      in-ranges-of (records k section) table whole (λ i l. rw (records-at k section i (omega arith)) (all-within section table h i l))
 
   pub no-number-outside : InRanges (records k section) table → firstOutside section table ≡ length table
-  unfolding firstOutside
   no-number-outside r =
       let whole = in-ranges-length r in
-      all-inside section 0 table (λ i l. rw zero-add (rw (records-at k section i (omega arith)) at (in-ranges-at r i l))) ∙ zero-add (length table)
+      all-inside section table (λ i l. rw (records-at k section i (omega arith)) at (in-ranges-at r i l))
 
 -- ---- what holds of every range
 abbrev pub Every : (Range → Type 0) → List Range → Type 0
@@ -131,28 +100,19 @@ every-records P (suc k) section h = every-append P section (records k section) h
 abbrev pub Few : Range → Type 0
 Few r = most r < 1_000_000_000
 
-pub within-size : (r : Range) (v : ℤ) → within r v ≡ true → natAbs v ≤ most r
-unfolding within
-within-size (a to b) (pos n) e = within-whole (a to b) n e .1
-within-size (a to b) (negsuc n) e = never e
-within-size (± b) (pos n) e = leb-true n b e
-within-size (± b) (negsuc n) e = leb-true (suc n) b e
-
 pub short-in-ranges : {rs : List Range} {vs : List ℤ} → Every Few rs → InRanges rs vs → Short vs
 short-in-ranges s no-more = tt
-short-in-ranges s (and-in {r = r} {v = v} w i) = (omega (arith, within-size r v w), short-in-ranges (s .1) i)
+short-in-ranges s (and-in {r = r} {v = v} w i) = (omega (arith, within-size r v w .1), short-in-ranges (s .1) i)
 
 -- a range of whole numbers
 abbrev pub Whole : Range → Type 0
 Whole (a to b) = Unit
 Whole (± b) = ⊥
 
-whole-within : (r : Range) (v : ℤ) → Whole r → within r v ≡ true → pos (natAbs v) ≡ v
-unfolding within
-whole-within (a to b) (pos n) w e = refl
-whole-within (a to b) (negsuc n) w e = never e
-whole-within (± b) v w e = absurd w
+positive-in : (r : Range) (v : ℤ) → Whole r → within r v ≡ true → pos (natAbs v) ≡ v
+positive-in (a to b) v w e = within-positive a b v e
+positive-in (± b) v w e = absurd w
 
 pub whole-in-ranges : {rs : List Range} {vs : List ℤ} → Every Whole rs → InRanges rs vs → map pos (map natAbs vs) ≡ vs
 whole-in-ranges h no-more = refl
-whole-in-ranges h (and-in {r = r} {v = v} w i) = ap₂ _∷_ (whole-within r v (h .0) w) (whole-in-ranges (h .1) i)
+whole-in-ranges h (and-in {r = r} {v = v} w i) = ap₂ _∷_ (positive-in r v (h .0) w) (whole-in-ranges (h .1) i)

@@ -11,20 +11,18 @@ use mathlib.Core.List.{List, [], _∷_, map, append-assoc}
 use Prim.Native.Nat.{ℕ, _+_, _*_, _/_, _%_, _≤_, _<_}
 use native.Mathlib.Nat.{mul-one, div-add-mod'}
 use native.Mathlib.Omega.{arith}
-use borrow.Author.Tests.{leb-true, eqb-true, eq-eqb, le-leb, le-ltb}
-use lib.Dec.{leb, eqb}
+use borrow.Author.Tests.{eq-eqb, le-leb}
 use lib.IntN.{ℤ, pos, natAbs}
 use lib.ListN.{length, length-map}
-use Rattle.arithmetic.proofs.Choice.{chosen}
-use Rattle.arithmetic.proofs.Tests.{both}
 use Rattle.ranges.specs.Fields.{Range, particulars, halfBreadth, item, tank}
 use Rattle.ranges.specs.Outcome.{answered}
 use Rattle.ranges.specs.Outside.{firstOutside, numbersOf}
-use Rattle.ranges.specs.Sizes.{longestFile, roomForHalfBreadths, roomForItems, roomForTanks, wholeRecords, mostItems, mostTanks}
+use Rattle.ranges.specs.Sizes.{longestFile, wholeRecords, mostItems, mostTanks}
 use Rattle.ranges.specs.declared.Particulars.{Particulars}
+use Rattle.ranges.proofs.Facts.{records-are}
 use Rattle.offsets.specs.File.{Contents, records, points, file}
 use Rattle.offsets.specs.Putting.{Passes}
-use Rattle.offsets.specs.Reader.{readerOf, particularsOf, summaryOf}
+use Rattle.offsets.specs.Reader.{particularsOf, summaryOf}
 use Rattle.offsets.specs.Tokens.{tokens}
 use Rattle.offsets.specs.Written.{lines, counted, sectionText, textOf}
 use Rattle.offsets.specs.Writer.{writerOf}
@@ -39,11 +37,9 @@ contentsOf p halfBreadths items tanks = record { hull = numbersOf p; halfBreadth
 -- ---- the writer's tests, and sound contents
 module _ (fields : List Range) (allowed : ℕ) (table : List ℤ) where
   whole : wholeRecords (length fields) allowed (length table) ≡ true → (length table ≡ recordsIn fields table * length fields) × (recordsIn fields table ≤ allowed)
-  unfolding wholeRecords
   whole e =
-      let t = both (eqb (length table % length fields) 0) (leb (recordsIn fields table) allowed) e in
-      let none : length table % length fields ≡ 0 = eqb-true _ _ (t .0) in
-      (omega (arith, div-add-mod' (length table) (length fields)), leb-true _ _ (t .1))
+      let t = records-are (length fields) allowed (length table) e in
+      (omega (arith, div-add-mod' (length table) (length fields), t .0), t .1)
 
   whole-again : length table ≡ recordsIn fields table * length fields → recordsIn fields table ≤ allowed → wholeRecords (length fields) allowed (length table) ≡ true
   unfolding wholeRecords
@@ -126,12 +122,6 @@ written-is-read p h i t room e =
     let a = answered-passes p h i t room e in
     let s = passes-sound p h i t (a .passes) in
     rw (a .text-is) (length-of-text p h i t s, text-is-read p h i t s)
-
--- the reader with room enough
-pub reader-opens : (text : List ℕ) (halfBreadths items tanks : ℕ) → length text ≤ longestFile → roomForHalfBreadths ≤ halfBreadths → roomForItems ≤ items → roomForTanks ≤ tanks
-    → readerOf text halfBreadths items tanks ≡ file (length text) (tokens text)
-unfolding readerOf
-reader-opens text halfBreadths items tanks l a b c = simp (le-ltb _ _ a, le-ltb _ _ b, le-ltb _ _ c, le-ltb _ _ l, chosen)
 
 -- what is summarised of what was written
 pub summary-of-contents : (p : Particulars) (h : List ℕ) (i t : List ℤ) → summaryOf (contentsOf p h i t) ≡ record { particulars = p; items = length i / 4; tanks = length t / 8 }

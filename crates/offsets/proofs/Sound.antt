@@ -1,32 +1,31 @@
 -- Contents that a file can say: those of every file that is read, and of every file that is written.
 --     Sound                     each number in its range, and no more items and tanks than allowed
+--     hull-most, points-le      no hull has more stations, waterlines or points than there is room for
 --     numbersIn                 the numbers of a file of these contents, in their order
 --     file-of-said              tokens that say them are read as these contents
---     numbers-within            numbers that were read are in their ranges
 --     file-sound                what is read from a file is sound
 -- Assumes nothing.
 use mathlib.Core.Path.{_≡_, refl, sym, ap, _∙_}
-use mathlib.Core.Bool.{Bool, true, false}
+use mathlib.Core.Bool.{true}
 use mathlib.Core.List.{List, [], _∷_, _++_, append-nil}
 use Prim.Native.Nat.{ℕ, _+_, _*_, _/_, _≤_, _<_}
 use native.Mathlib.Nat.{mul-one, mul-le-mul, mul-div-cancel}
 use native.Mathlib.Omega.{arith}
-use borrow.Author.Tests.{le-leb}
 use lib.Dec.{lit≤}
-use lib.IntN.{ℤ, pos, negsuc, natAbs}
-use lib.ListN.{length, length-append}
-use Rattle.arithmetic.specs.Choice.{if_then_else_}
+use lib.IntN.{ℤ, pos, natAbs}
+use lib.ListN.{length, getD, length-append}
 use Rattle.arithmetic.proofs.Choice.{chosen}
-use Rattle.arithmetic.proofs.Tests.{never}
 use Rattle.ranges.specs.Fields.{Range, _to_, within, particulars, halfBreadth, item, tank}
-use Rattle.ranges.specs.Outcome.{Outcome, answered, refused, andThen}
+use Rattle.ranges.specs.Outcome.{Outcome, answered, andThen}
 use Rattle.ranges.specs.Sizes.{roomForHalfBreadths, mostItems, mostTanks}
-use Rattle.ranges.proofs.Facts.{within-whole}
+use Rattle.ranges.proofs.Facts.{whole-within, within-size}
+use Rattle.ranges.proofs.Outcomes.{refused-not, answer-same, answered-then}
 use Rattle.offsets.specs.File.{Contents, records, points, section, complete, file}
 use Rattle.offsets.specs.Reading.{one, count, numbers}
 use Rattle.offsets.specs.Tokens.{Token, number, noNumber}
-use Rattle.offsets.proofs.InRanges.{InRanges, no-more, and-in, in-ranges-length, length-of-records, within-size}
+use Rattle.offsets.proofs.InRanges.{InRanges, no-more, and-in, in-ranges-length, length-of-records}
 use Rattle.offsets.proofs.Spelled.{Says, silent, followed}
+use Rattle.offsets.proofs.Within.{count-within, numbers-within}
 
 -- how many records of a width a table has
 abbrev pub recordsIn : List Range → List ℤ → ℕ
@@ -40,11 +39,15 @@ pub record Sound (c : Contents) : Type 0 where
   pub few-tanks : recordsIn tank (c .tanks) ≤ mostTanks
   pub tanks : InRanges (records (recordsIn tank (c .tanks)) tank) (c .tanks)
 
--- no hull has more points than there is room for
+-- n and m of a hull
+pub hull-most : {hull : List ℤ} → InRanges particulars hull → (natAbs (getD hull 0 (pos 0)) ≤ 40) × (natAbs (getD hull 1 (pos 0)) ≤ 20)
+hull-most (and-in {r = r} {v = n} a (and-in {r = q} {v = m} b more)) = (within-size r n a .1, within-size q m b .1)
+
 pub points-le : {hull : List ℤ} → InRanges particulars hull → points hull ≤ roomForHalfBreadths
-points-le (and-in {r = r} {v = n} a (and-in {r = q} {v = m} b more)) =
-    let long : natAbs n + 1 ≤ 41 = omega (arith, within-size r n a) in
-    let high : natAbs m + 1 ≤ 21 = omega (arith, within-size q m b) in
+points-le {hull} i =
+    let h = hull-most i in
+    let long : natAbs (getD hull 0 (pos 0)) + 1 ≤ 41 = omega (arith, h .0) in
+    let high : natAbs (getD hull 1 (pos 0)) + 1 ≤ 21 = omega (arith, h .1) in
     mul-le-mul long high
 
 module _ (c : Contents) (s : Sound c) where
@@ -88,9 +91,9 @@ module _ (textLength : ℕ) where
   one-takes why range w (followed {ts = rest} s) = record { rest = rest; read = rw w (simp chosen); says = s }
 
   count-takes : {more : List ℤ} {ts : List Token} (least most k : ℕ) → least ≤ k → k ≤ most → Says (pos k ∷ more) ts → Takes (count textLength least most ts) k more
-  unfolding count andThen within
+  unfolding count andThen
   count-takes least most k l u s =
-      let o = one-takes 3 (least to most) (rw (le-leb least k l, le-leb k most u)) s in
+      let o = one-takes 3 (least to most) (whole-within least most k (l, u)) s in
       record { rest = o .rest; read = rw (o .read); says = o .says }
 
   numbers-take : {rs : List Range} {vs : List ℤ} → InRanges rs vs → (more : List ℤ) (ts : List Token) → Says (vs ++ more) ts → Takes (numbers textLength rs ts) vs more
@@ -126,29 +129,6 @@ module _ (textLength : ℕ) where
       rw (five .read, hull .read, half .read, items .read, tanks .read) (complete-at-end c {ts = tanks .rest} (tanks .says))
 
 -- ---- what was read
-refused-no-answer : {A X : Type 0} {why place : ℕ} {a : A} → _≡_ {A = Outcome A} (refused why place) (answered a) → X
-refused-no-answer e = let z : _≡_ {A = ℕ} 0 1 = cc in absurd (omega arith)
-
-answered-same : {A : Type 0} {a b : A} → _≡_ {A = Outcome A} (answered a) (answered b) → a ≡ b
-answered-same e = cc
-
--- an answer that came by way of another
-pub record Came {A B : Type 0} (first : Outcome A) (next : A → Outcome B) (b : B) : Type 0 where
-  pub value : A
-  pub first-is : first ≡ answered value
-  pub next-is : next value ≡ answered b
-
-came : {A B : Type 0} (first : Outcome A) (next : A → Outcome B) {b : B} → andThen first next ≡ answered b → Came first next b
-unfolding andThen
-came (answered a) next e = record { value = a; first-is = refl; next-is = e }
-came (refused why place) next e = refused-no-answer e
-
--- an answer that a test let through
-let-through : (t : Bool) {A : Type 0} {a b : A} (why place : ℕ) → (if t then answered a else refused why place) ≡ answered b → (t ≡ true) × (a ≡ b)
-unfolding if_then_else_
-let-through true why place e = (refl, answered-same e)
-let-through false why place e = refused-no-answer e
-
 -- a section that was read: a count that is allowed, and so many records in range
 pub record SectionIn (least most : ℕ) (fields : List Range) (vs : List ℤ) : Type 0 where
   pub many : ℕ
@@ -176,60 +156,30 @@ sound-of c hull half items tanks =
       tanks = rw t at (tanks .in-range);
     }
 
-between : (least most : ℕ) (v : ℤ) → within (least to most) v ≡ true → (least ≤ natAbs v) × (natAbs v ≤ most)
-unfolding within
-between least most (pos n) e = within-whole (least to most) n e
-between least most (negsuc n) e = never e
-
 module _ (textLength : ℕ) where
-  one-within : (why : ℕ) (range : Range) (ts : List Token) {v : ℤ} {rest : List Token} → one textLength why range ts ≡ answered (v, rest) → within range v ≡ true
-  unfolding one
-  one-within why range [] e = refused-no-answer e
-  one-within why range (noNumber place ∷ ts) e = refused-no-answer e
-  one-within why range (number place w ∷ ts) {v} e =
-      let t = let-through (within range w) why place e in
-      let same : w ≡ v = ap (λ read. read .0) (t .1) in
-      rw same at (t .0)
-
-  count-within : (least most : ℕ) (ts : List Token) {k : ℕ} {rest : List Token} → count textLength least most ts ≡ answered (k, rest) → (least ≤ k) × (k ≤ most)
-  unfolding count
-  count-within least most ts {k} e =
-      let o = came (one textLength 3 (least to most) ts) _ e in
-      let same : natAbs (o .value .0) ≡ k = ap (λ read. read .0) (answered-same (o .next-is)) in
-      rw same at (between least most (o .value .0) (one-within 3 (least to most) ts (o .first-is)))
-
-  pub numbers-within : (rs : List Range) (ts : List Token) {vs : List ℤ} {rest : List Token} → numbers textLength rs ts ≡ answered (vs, rest) → InRanges rs vs
-  unfolding numbers
-  numbers-within [] ts {vs} e = let same : [] ≡ vs = ap (λ read. read .0) (answered-same e) in rw (← same) no-more
-  numbers-within (r ∷ rs) ts {vs} e =
-      let o = came (one textLength 4 r ts) _ e in
-      let n = came (numbers textLength rs (o .value .1)) _ (o .next-is) in
-      let same : o .value .0 ∷ n .value .0 ≡ vs = ap (λ read. read .0) (answered-same (n .next-is)) in
-      rw (← same) (and-in (one-within 4 r ts (o .first-is)) (numbers-within rs (o .value .1) (n .first-is)))
-
   section-in : (least most : ℕ) (fields : List Range) (ts : List Token) {vs : List ℤ} {rest : List Token} → section textLength least most fields ts ≡ answered (vs, rest) → SectionIn least most fields vs
   unfolding section
   section-in least most fields ts e =
-      let k = came (count textLength least most ts) _ e in
-      let b = count-within least most ts (k .first-is) in
-      record { many = k .value .0; low = b .0; high = b .1; in-range = numbers-within (records (k .value .0) fields) (k .value .1) (k .next-is) }
+      let k = answered-then e in
+      let b = count-within textLength least most ts (k .1) in
+      record { many = k .0 .0; low = b .0; high = b .1; in-range = numbers-within textLength (records (k .0 .0) fields) (k .0 .1) (k .2) }
 
   complete-sound : (c : Contents) (ts : List Token) {d : Contents} → complete textLength c ts ≡ answered d → Sound c → Sound d
   unfolding complete
-  complete-sound c [] e s = rw (answered-same e) at s
-  complete-sound c (number place v ∷ rest) e s = refused-no-answer e
-  complete-sound c (noNumber place ∷ rest) e s = refused-no-answer e
+  complete-sound c [] e s = rw (answer-same e) at s
+  complete-sound c (number place v ∷ rest) e s = refused-not e
+  complete-sound c (noNumber place ∷ rest) e s = refused-not e
 
   pub file-sound : (ts : List Token) {c : Contents} → file textLength ts ≡ answered c → Sound c
   unfolding file
   file-sound ts e =
-      let five = came (count textLength 5 5 ts) _ e in
-      let hull = came (numbers textLength particulars (five .value .1)) _ (five .next-is) in
-      let p = points (hull .value .0) in
-      let half = came (section textLength p p halfBreadth (hull .value .1)) _ (hull .next-is) in
-      let items = came (section textLength 0 mostItems item (half .value .1)) _ (half .next-is) in
-      let tanks = came (section textLength 0 mostTanks tank (items .value .1)) _ (items .next-is) in
-      let c : Contents = record { hull = hull .value .0; halfBreadths = half .value .0; items = items .value .0; tanks = tanks .value .0 } in
-      complete-sound c (tanks .value .1) (tanks .next-is)
-      (sound-of c (numbers-within particulars (five .value .1) (hull .first-is)) (section-in p p halfBreadth (hull .value .1) (half .first-is))
-      (section-in 0 mostItems item (half .value .1) (items .first-is)) (section-in 0 mostTanks tank (items .value .1) (tanks .first-is)))
+      let five = answered-then e in
+      let hull = answered-then (five .2) in
+      let p = points (hull .0 .0) in
+      let half = answered-then (hull .2) in
+      let items = answered-then (half .2) in
+      let tanks = answered-then (items .2) in
+      let c : Contents = record { hull = hull .0 .0; halfBreadths = half .0 .0; items = items .0 .0; tanks = tanks .0 .0 } in
+      complete-sound c (tanks .0 .1) (tanks .2)
+      (sound-of c (numbers-within textLength particulars (five .0 .1) (hull .1)) (section-in p p halfBreadth (hull .0 .1) (half .1))
+      (section-in 0 mostItems item (half .0 .1) (items .1)) (section-in 0 mostTanks tank (items .0 .1) (tanks .1)))

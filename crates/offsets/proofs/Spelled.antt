@@ -13,18 +13,15 @@ use mathlib.Core.List.{List, [], _∷_, _++_, append-assoc, append-nil}
 use Prim.Native.Nat.{ℕ, zero, suc, _+_, _-_, _*_, _≤_, _<_}
 use native.Mathlib.Nat.{suc-mul, zero-mul, add-zero}
 use native.Mathlib.Omega.{arith}
-use borrow.Author.Tests.{leb-true, ne-eqb}
-use lib.Dec.{leb}
 use lib.IntN.{ℤ, natAbs}
 use lib.ListN.{length, take, drop, getD, length-append, length-take, length-drop, take-append-drop}
 use Rattle.arithmetic.proofs.Choice.{chosen}
-use Rattle.arithmetic.proofs.Tests.{both}
-use Rattle.numerals.specs.Number.{isDigit, numberOf}
+use Rattle.numerals.specs.Number.{numberOf}
 use Rattle.numerals.specs.Printed.{printed}
 use Rattle.numerals.proofs.Printed.{number-of-printed, some-of-printed, length-of-printed, every-printed}
 use Rattle.offsets.specs.Tokens.{Token, number, isSeparator, said, closed, tokensFrom, space, lineFeed}
 use Rattle.offsets.specs.Written.{line, lines}
-use Rattle.offsets.proofs.Words.{Clear, none, more}
+use Rattle.offsets.proofs.Words.{Clear, none, more, digit-no-separator}
 
 pub data Says : List ℤ → List Token → Type 0 where
   silent : Says [] []
@@ -35,12 +32,6 @@ pub data Spells : List ℤ → List ℕ → Type 0 where
   next : {vs : List ℤ} {text : List ℕ} (v : ℤ) (b : ℕ) → natAbs v < 1_000_000_000 → isSeparator b ≡ true → Spells vs text → Spells (v ∷ vs) (printed v ++ b ∷ text)
 
 -- ---- a printed number is one token
-digit-no-separator : (b : ℕ) → isDigit b ≡ true → isSeparator b ≡ false
-unfolding isDigit isSeparator
-digit-no-separator b e =
-    let low : 48 ≤ b = leb-true 48 b (both (leb 48 b) (leb b 57) e .0) in
-    rw (ne-eqb b 32 (λ z. omega arith), ne-eqb b 10 (λ z. omega arith))
-
 clear-of : (l : List ℕ) → ((k : ℕ) → k < length l → isSeparator (getD l k 0) ≡ false) → Clear l
 clear-of [] h = none
 clear-of (b ∷ l) h = more (h zero (omega arith)) (clear-of l (λ k lt. h (suc k) (omega arith)))

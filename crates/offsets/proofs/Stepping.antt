@@ -3,47 +3,28 @@
 --     numbers-passed, numbers-at       numbers
 --     finish-passed, finish-end, finish-none, finish-number      nothing may follow
 -- Assumes nothing.
-use mathlib.Core.Path.{_≡_, refl, sym, ap, _∙_}
-use mathlib.Core.Bool.{Bool, true, false}
+use mathlib.Core.Path.{_≡_, sym, _∙_}
 use mathlib.Core.List.{List, [], _∷_}
 use Prim.Native.Nat.{ℕ, _≤_}
 use native.Mathlib.Omega.{arith}
-use lib.IntN.{ℤ, natAbs}
+use lib.IntN.{ℤ}
 use lib.ListN.{length, take}
-use Rattle.arithmetic.specs.Choice.{if_then_else_}
-use Rattle.ranges.specs.Fields.{_to_, within}
-use Rattle.ranges.specs.Outcome.{Outcome, answered, refused, andThen}
-use Rattle.ranges.specs.Refusals.{tokenAfterEnd, countNotAllowed}
+use Rattle.ranges.specs.Outcome.{Outcome, andThen}
+use Rattle.ranges.specs.Refusals.{tokenAfterEnd}
 use Rattle.ranges.specs.declared.Refusal.{Refusal}
 use Rattle.offsets.specs.File.{Contents, complete}
-use Rattle.offsets.specs.Reading.{one, count, numbers}
+use Rattle.offsets.specs.Reading.{count, numbers}
 use Rattle.offsets.specs.Steps.{tokensAt, Begins, onStep, onNumbers, onEnd, countOf, rangesFrom, Counts, ReadsFrom, ReadsAfter, Finishes}
 use Rattle.offsets.specs.Tokens.{Token, number, noNumber}
 use Rattle.offsets.specs.declared.reading.Step.{Step}
 use Rattle.offsets.specs.declared.reading.Step.the-variants as S
-use Rattle.offsets.proofs.Taking.{between-most}
-use Rattle.offsets.proofs.Within.{refused-not, answer-same}
-
--- ---- a count is one of those allowed
-module _ (len least most : ℕ) where
-  by-test : (t : Bool) (v : ℤ) (at : ℕ) (rest : List Token) → within (least to most) v ≡ t → (k : ℕ) (ts : List Token)
-      → andThen {B = ℕ × List Token} (if t then answered (v, rest) else refused countNotAllowed at) (λ (r : ℤ × List Token). answered (natAbs (r .0), r .1)) ≡ answered (k, ts) → k ≤ most
-  unfolding andThen if_then_else_
-  by-test true v at rest w k ts e =
-      let same : natAbs v ≡ k = ap (λ (r : ℕ × List Token). r .0) (answer-same e) in
-      omega (arith, between-most least most v w)
-  by-test false v at rest w k ts e = refused-not e
-
-  count-most : (tokens : List Token) (k : ℕ) (ts : List Token) → count len least most tokens ≡ answered (k, ts) → k ≤ most
-  unfolding count one andThen
-  count-most [] k ts e = refused-not e
-  count-most (noNumber at ∷ rest) k ts e = refused-not e
-  count-most (number at v ∷ rest) k ts e = by-test (within (least to most) v) v at rest refl k ts e
+use Rattle.offsets.proofs.Within.{count-within}
 
 module _ (text : List ℕ) where
+  -- a count is one of those allowed
   bounded : (least most : ℕ) (tokens : List Token) (r : Step) → count (length text) least most tokens ≡ onStep text r → countOf r ≤ most
   unfolding onStep
-  bounded least most tokens (S.At k next) e = count-most (length text) least most tokens k (tokensAt text next) e
+  bounded least most tokens (S.At k next) e = count-within (length text) least most tokens e .1
   bounded least most tokens (S.Refused r) e = omega arith
 
   module _ (step : Step) where

@@ -6,13 +6,12 @@
 use mathlib.Core.Path.{_≡_, refl, sym, ap, _∙_}
 use mathlib.Core.Bool.{Bool, true, false, _&&_}
 use mathlib.Core.List.{List, [], _∷_}
-use Prim.Native.Nat.{ℕ, _≤_}
-use borrow.Author.Tests.{leb-true}
+use Prim.Native.Nat.{ℕ}
 use lib.Dec.{leb}
 use lib.IntN.{ℤ, pos, negsuc, natAbs}
 use Rattle.arithmetic.specs.Signed.{isNegative}
 use Rattle.arithmetic.proofs.Choice.{chosen}
-use Rattle.arithmetic.proofs.Tests.{never, both}
+use Rattle.arithmetic.proofs.Tests.{never}
 use Rattle.ranges.specs.Fields.{Range, _to_, within}
 use Rattle.ranges.specs.Outcome.{Outcome, answered, refused, andThen}
 use Rattle.ranges.specs.Refusals.{notANumber, countNotAllowed, endsTooEarly}
@@ -29,12 +28,6 @@ pub between-by-size : (a b size : ℕ) (v : ℤ) → size ≡ natAbs v → isNeg
 unfolding within
 between-by-size a b size (pos n) s e = rw s
 between-by-size a b size (negsuc n) s e = never (sym e)
-
--- a number between two others is no larger than the second
-pub between-most : (a b : ℕ) (v : ℤ) → within (a to b) v ≡ true → natAbs v ≤ b
-unfolding within
-between-most a b (pos n) e = leb-true n b (both (leb a n) (leb n b) e .1)
-between-most a b (negsuc n) e = never e
 
 module _ (len : ℕ) (tokens : List Token) where
   module _ (why : ℕ) (range : Range) where

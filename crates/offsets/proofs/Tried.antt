@@ -4,11 +4,10 @@
 --     answers, refuses-room     then the text is answered, or 14 where the room is shorter
 --     answered-passes           where a text is answered, none holds
 -- Assumes nothing.
-use mathlib.Core.Path.{_≡_, refl, _∙_}
-use mathlib.Core.Bool.{Bool, true, false}
+use mathlib.Core.Path.{_≡_, _∙_}
+use mathlib.Core.Bool.{true, false}
 use mathlib.Core.List.{List, map}
 use Prim.Native.Nat.{ℕ, _+_, _≤_, _<_}
-use native.Mathlib.Omega.{arith}
 use borrow.Author.Tests.{lt-ltb, le-ltb, ltb-false, eq-eqb, ne-eqb, eqb-true, not-false}
 use lib.Dec.{ltb}
 use lib.IntN.{ℤ, pos}
@@ -16,11 +15,12 @@ use lib.ListN.{length}
 use Rattle.arithmetic.specs.Choice.{if_then_else_}
 use Rattle.arithmetic.proofs.Choice.{chosen}
 use Rattle.ranges.specs.Fields.{particulars, halfBreadth, item, tank}
-use Rattle.ranges.specs.Outcome.{Outcome, answered, refused}
+use Rattle.ranges.specs.Outcome.{answered, refused}
 use Rattle.ranges.specs.Outside.{firstOutside, numbersOf}
 use Rattle.ranges.specs.Refusals.{outOfRange, wrongSize, roomTooShort, placeOfHalfBreadths, placeOfItems, placeOfTanks, halfBreadthTable, itemTable, tankTable}
 use Rattle.ranges.specs.Sizes.{pointsOf, wholeRecords, mostItems, mostTanks}
 use Rattle.ranges.specs.declared.Particulars.{Particulars}
+use Rattle.ranges.proofs.Outcomes.{not-refused}
 use Rattle.offsets.specs.Putting.{RightSizes, Passes}
 use Rattle.offsets.specs.Written.{textOf}
 use Rattle.offsets.specs.Writer.{writerOf}
@@ -75,11 +75,6 @@ module _ (p : Particulars) (h : List ℕ) (i t : List ℤ) (room : ℕ) where
     answers l = passed ∙ simp (le-ltb _ _ l, chosen)
 
 -- ---- an answer tells that every test was passed
-pub went-on : (t : Bool) {A : Type 0} {x : Outcome A} {a : A} (why place : ℕ) → (if t then refused why place else x) ≡ answered a → (t ≡ false) × (x ≡ answered a)
-unfolding if_then_else_
-went-on true why place e = let z : _≡_ {A = ℕ} 0 1 = cc in absurd (omega arith)
-went-on false why place e = (refl, e)
-
 pub record AnsweredText (p : Particulars) (h : List ℕ) (i t : List ℤ) (room : ℕ) (text : List ℕ) : Type 0 where
   pub passes : Passes p h i t
   pub text-is : text ≡ textOf p h i t
@@ -89,14 +84,14 @@ module _ (p : Particulars) (h : List ℕ) (i t : List ℤ) (room : ℕ) {text : 
   pub answered-passes : writerOf p h i t room ≡ answered text → AnsweredText p h i t room text
   unfolding writerOf
   answered-passes e =
-      let a = went-on _ _ _ e in
-      let b = went-on _ _ _ (a .1) in
-      let c = went-on _ _ _ (b .1) in
-      let d = went-on _ _ _ (c .1) in
-      let f = went-on _ _ _ (d .1) in
-      let g = went-on _ _ _ (f .1) in
-      let j = went-on _ _ _ (g .1) in
-      let k = went-on _ _ _ (j .1) in
+      let a = not-refused _ _ e in
+      let b = not-refused _ _ (a .1) in
+      let c = not-refused _ _ (b .1) in
+      let d = not-refused _ _ (c .1) in
+      let f = not-refused _ _ (d .1) in
+      let g = not-refused _ _ (f .1) in
+      let j = not-refused _ _ (g .1) in
+      let k = not-refused _ _ (j .1) in
       let text-is : text ≡ textOf p h i t = cc (k .1) in
       record {
         passes = record {

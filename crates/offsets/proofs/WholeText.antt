@@ -1,19 +1,16 @@
 -- The text of a file put section by section, where the writer's tests were passed.
---     hull-in-range, passes-half-breadths   the particulars and the half-breadths are in range
 --     room-for-text                         room for the longest file is room for the text
 --     hull-room, stations-room, items-room, tanks-room      what each section asks, once those before it were put
 --     all-put                               the four sections are the text
 -- Assumes nothing.
 use mathlib.Core.Path.{_≡_, sym, _∙_}
-use mathlib.Core.List.{List, _++_, map, append-assoc}
+use mathlib.Core.List.{List, _++_, append-assoc}
 use Prim.Native.Nat.{ℕ, _+_, _≤_, _<_}
 use native.Mathlib.Omega.{arith}
-use lib.IntN.{ℤ, pos}
-use lib.ListN.{length, take, drop, length-map}
+use lib.IntN.{ℤ}
+use lib.ListN.{length, take, drop}
 use lib.Seq.{sets-eq, take-at, take-length}
-use Rattle.ranges.specs.Fields.{particulars, halfBreadth}
-use Rattle.ranges.specs.InRange.{ParticularsInRange, HalfBreadthsInRange}
-use Rattle.ranges.specs.Outside.{firstOutside, numbersOf}
+use Rattle.ranges.specs.InRange.{ParticularsInRange}
 use Rattle.ranges.specs.Outcome.{refused}
 use Rattle.ranges.specs.Refusals.{roomTooShort}
 use Rattle.ranges.specs.Sizes.{longestFile}
@@ -24,19 +21,12 @@ use Rattle.offsets.specs.Writer.{writerOf, lengthOf, roomAfter, Writes}
 use Rattle.offsets.specs.Written.{sectionText, textOf}
 use Rattle.offsets.specs.declared.Written.{Written}
 use Rattle.offsets.specs.declared.Written.the-variants.{Wrote, Refused}
-use Rattle.offsets.proofs.InRanges.{outside-le}
 use Rattle.offsets.proofs.Put.{puts-append, puts-length, room-first, room-second}
 use Rattle.offsets.proofs.RoundTrip.{contentsOf, passes-sound, length-of-text}
 use Rattle.offsets.proofs.Sound.{points-le, length-of-items, length-of-tanks}
 use Rattle.offsets.proofs.Tried.{answers, refuses-room}
 
-pub hull-in-range : (p : Particulars) → length particulars ≤ firstOutside particulars (numbersOf p) → ParticularsInRange p
-hull-in-range p h = particulars-in-range p (omega (arith, outside-le particulars (numbersOf p)))
-
 module _ {p : Particulars} {h : List ℕ} {i t : List ℤ} (o : Passes p h i t) where
-  pub passes-half-breadths : HalfBreadthsInRange h
-  passes-half-breadths = half-breadths-in-range h (omega (arith, o .half-breadths-in, outside-le halfBreadth (map pos h), length-map h pos))
-
   sections : textOf p h i t ≡ ((hullText p ++ stationsText (p .m + 1) (p .n + 1) h) ++ sectionText 4 i) ++ sectionText 8 t
   unfolding textOf
   sections = rw (o .right-sizes .half-breadth-size) (simp append-assoc)
@@ -55,12 +45,12 @@ module _ {p : Particulars} {h : List ℕ} {i t : List ℤ} (o : Passes p h i t) 
     first-two = room-first _ (sectionText 4 i) first-three
 
     pub hull-room : ParticularsInRange p × RoomFor (hullText p) text 0
-    hull-room = (hull-in-range p (o .right-sizes .particulars-in), room-first _ (stationsText (p .m + 1) (p .n + 1) h) first-two)
+    hull-room = (particulars-in-range p (o .right-sizes .particulars-in), room-first _ (stationsText (p .m + 1) (p .n + 1) h) first-two)
 
     module _ {text₁ : List ℕ} {at₁ : ℕ} (hull : Puts (hullText p) text 0 text₁ at₁) where
       pub stations-room : RoomForStations (p .m + 1) (p .n + 1) h text₁ at₁
       stations-room = record {
-        in-range = passes-half-breadths;
+        in-range = half-breadths-in-range h (o .half-breadths-in);
         few = omega (arith, o .right-sizes .half-breadth-size, points-le (passes-sound p h i t o .hull));
         some = omega arith;
         whole = o .right-sizes .half-breadth-size;

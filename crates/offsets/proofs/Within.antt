@@ -1,66 +1,43 @@
 -- Numbers that were read are in range.
---     Took, took            the first of numbers that were read, and the others
---     within-positive       a number of a range from 0 on is its own size
+--     one-within          a number
+--     count-within        a count is one of those allowed
+--     numbers-within      numbers are in their ranges
 -- Assumes nothing.
-use mathlib.Core.Path.{_≡_, refl, sym, ap, _∙_}
-use mathlib.Core.Bool.{Bool, true, false}
+use mathlib.Core.Path.{_≡_, ap}
+use mathlib.Core.Bool.{true}
 use mathlib.Core.List.{List, [], _∷_}
-use Prim.Native.Nat.{ℕ}
-use native.Mathlib.Omega.{arith}
-use lib.IntN.{ℤ, pos, negsuc, natAbs}
-use Rattle.arithmetic.specs.Choice.{if_then_else_}
-use Rattle.arithmetic.proofs.Tests.{never}
+use Prim.Native.Nat.{ℕ, _≤_}
+use lib.IntN.{ℤ, natAbs}
 use Rattle.ranges.specs.Fields.{Range, _to_, within}
-use Rattle.ranges.specs.Outcome.{Outcome, answered, refused, andThen}
-use Rattle.ranges.specs.Refusals.{outOfRange}
-use Rattle.offsets.specs.Reading.{one, numbers}
+use Rattle.ranges.specs.Outcome.{answered}
+use Rattle.ranges.proofs.Facts.{within-size}
+use Rattle.ranges.proofs.Outcomes.{refused-not, answer-same, was-passed, answered-then}
+use Rattle.offsets.specs.Reading.{one, count, numbers}
 use Rattle.offsets.specs.Tokens.{Token, number, noNumber}
+use Rattle.offsets.proofs.InRanges.{InRanges, no-more, and-in}
 
-pub refused-not : {X A : Type 0} {a : A} {w p : ℕ} → _≡_ {A = Outcome A} (refused w p) (answered a) → X
-refused-not e = let z : _≡_ {A = ℕ} 0 1 = cc in absurd (omega arith)
+module _ (len : ℕ) where
+  pub one-within : (why : ℕ) (range : Range) (ts : List Token) {v : ℤ} {rest : List Token} → one len why range ts ≡ answered (v, rest) → within range v ≡ true
+  unfolding one
+  one-within why range [] e = refused-not e
+  one-within why range (noNumber place ∷ ts) e = refused-not e
+  one-within why range (number place w ∷ ts) {v} e =
+      let t = was-passed why place e in
+      let same : w ≡ v = ap (λ read. read .0) (answer-same (t .1)) in
+      rw same at (t .0)
 
-pub answer-same : {A : Type 0} {a b : A} → _≡_ {A = Outcome A} (answered a) (answered b) → a ≡ b
-answer-same e = cc
+  pub count-within : (least most : ℕ) (ts : List Token) {k : ℕ} {rest : List Token} → count len least most ts ≡ answered (k, rest) → (least ≤ k) × (k ≤ most)
+  unfolding count
+  count-within least most ts {k} e =
+      let o = answered-then e in
+      let same : natAbs (o .0 .0) ≡ k = ap (λ read. read .0) (answer-same (o .2)) in
+      rw same at (within-size (least to most) (o .0 .0) (one-within 3 (least to most) ts (o .1)))
 
-module _ (len : ℕ) (range : Range) (ranges : List Range) where
-  pub record Took (xs : List ℤ) (rest : List Token) : Type 0 where
-    pub first : ℤ
-    pub others : List ℤ
-    pub after : List Token
-    pub are : xs ≡ first ∷ others
-    pub first-in : within range first ≡ true
-    pub others-read : numbers len ranges after ≡ answered (others, rest)
-
-  -- by what the others come to
-  others-of : (v : ℤ) (ts : List Token) → within range v ≡ true → (m : Outcome (List ℤ × List Token)) → numbers len ranges ts ≡ m → (xs : List ℤ) (rest : List Token)
-      → andThen {B = List ℤ × List Token} m (λ r. answered (v ∷ r .0, r .1)) ≡ answered (xs, rest) → Took xs rest
-  unfolding andThen
-  others-of v ts w (answered r) e xs rest h =
-      let same : _≡_ {A = List ℤ × List Token} (v ∷ r .0, r .1) (xs, rest) = answer-same h in
-      let tokens : r .1 ≡ rest = ap (λ (q : List ℤ × List Token). q .1) same in
-      record {
-        first = v;
-        others = r .0;
-        after = ts;
-        are = sym (ap (λ (q : List ℤ × List Token). q .0) same);
-        first-in = w;
-        others-read = e ∙ ap (λ t. answered (r .0, t)) tokens;
-      }
-  others-of v ts w (refused n p) e xs rest h = refused-not h
-
-  by-test : (t : Bool) (v : ℤ) (at : ℕ) (ts : List Token) → within range v ≡ t → (xs : List ℤ) (rest : List Token)
-      → andThen {B = List ℤ × List Token} (if t then answered (v, ts) else refused outOfRange at) (λ (q : ℤ × List Token). andThen {B = List ℤ × List Token} (numbers len ranges (q .1)) (λ r. answered (q .0 ∷ r .0, r .1))) ≡ answered (xs, rest) → Took xs rest
-  unfolding andThen if_then_else_
-  by-test true v at ts w xs rest h = others-of v ts w (numbers len ranges ts) refl xs rest h
-  by-test false v at ts w xs rest h = refused-not h
-
-  pub took : (ts : List Token) (xs : List ℤ) (rest : List Token) → numbers len (range ∷ ranges) ts ≡ answered (xs, rest) → Took xs rest
-  unfolding numbers one andThen
-  took [] xs rest h = refused-not h
-  took (noNumber at ∷ ts) xs rest h = refused-not h
-  took (number at v ∷ ts) xs rest h = by-test (within range v) v at ts refl xs rest h
-
-pub within-positive : (a b : ℕ) (v : ℤ) → within (a to b) v ≡ true → pos (natAbs v) ≡ v
-unfolding within
-within-positive a b (pos n) e = refl
-within-positive a b (negsuc n) e = never e
+  pub numbers-within : (rs : List Range) (ts : List Token) {vs : List ℤ} {rest : List Token} → numbers len rs ts ≡ answered (vs, rest) → InRanges rs vs
+  unfolding numbers
+  numbers-within [] ts {vs} e = let same : [] ≡ vs = ap (λ read. read .0) (answer-same e) in rw (← same) no-more
+  numbers-within (r ∷ rs) ts {vs} e =
+      let o = answered-then e in
+      let n = answered-then (o .2) in
+      let same : o .0 .0 ∷ n .0 .0 ≡ vs = ap (λ read. read .0) (answer-same (n .2)) in
+      rw (← same) (and-in (one-within 4 r ts (o .1)) (numbers-within rs (o .0 .1) (n .1)))

@@ -1,29 +1,32 @@
 -- Tokens by place.
 --     at-separator, at-end           a separator is passed over; beyond the end there are none
+--     digit-no-separator             no digit is a separator
 --     TokenAt, token-at              where a byte stands that is no separator, a token begins: its bytes, and the tokens after it
 --     finds-number, finds-other, finds-none          what is read at its first byte tells what it says
 --     first-none, first-number, first-other, first-no-number      the first token from a place on
 -- Assumes nothing.
 use mathlib.Core.Path.{_≡_, refl, sym, ap, subst, _∙_}
-use mathlib.Core.Bool.{Bool, true, false, _||_, _&&_}
+use mathlib.Core.Bool.{Bool, true, false, _||_}
 use mathlib.Core.List.{List, [], _∷_, _++_, append-assoc, append-nil}
 use Prim.Native.Nat.{ℕ, zero, suc, _+_, _-_, _≤_, _<_}
 use native.Mathlib.Nat.{add-zero}
 use native.Mathlib.Omega.{arith}
-use borrow.Author.Tests.{eqb-true, leb-true, ltb-true, ltb-false, lt-ltb, le-ltb, ne-eqb}
-use lib.Dec.{eqb, leb, ltb}
+use borrow.Author.Tests.{eqb-true, ltb-true, ltb-false, lt-ltb, le-ltb, ne-eqb}
+use lib.Dec.{eqb, ltb}
 use lib.IntN.{ℤ}
 use lib.ListN.{length, drop, getD, length-drop, take-append-drop, drop-of-length-le}
 use lib.Seq.{drop-drop, drop-at, getD-drop}
 use Rattle.arithmetic.specs.Choice.{if_then_else_}
 use Rattle.arithmetic.proofs.Choice.{chosen, if-either}
 use Rattle.arithmetic.proofs.Parts.{drop-step}
+use Rattle.arithmetic.proofs.Tests.{never}
 use Rattle.numerals.specs.Number.{minus, numberOf, isDigit}
 use Rattle.numerals.specs.Front.{digitsOf, front, endsAt, numeralAt}
 use Rattle.numerals.specs.declared.reading.Number.{Number}
 use Rattle.numerals.specs.declared.reading.Number.the-variants.{Is, Not}
 use Rattle.numerals.specs.declared.reading.Numeral.the-variants.{Ends, None}
 use Rattle.numerals.proofs.Fronts as Fronts
+use Rattle.numerals.proofs.Wholes.{digit-range}
 use Rattle.offsets.specs.Tokens.{Token, number, noNumber, isSeparator, said, closed, tokensFrom}
 use Rattle.offsets.specs.Steps.{tokensAt, endsHere, Begins, FirstByte}
 
@@ -142,15 +145,9 @@ pub token-at : (text : List ℕ) (at : ℕ) → at < length text → isSeparator
 token-at text at h e = begun text at (getD text at 0) (drop (at + 1) text) (drop-step text at 0 h) e
 
 -- ---- what is read at its first byte
-digit-no-separator : (b : ℕ) → isDigit b ≡ true → isSeparator b ≡ false
-unfolding isDigit isSeparator
-digit-no-separator b e =
-    let low : 48 ≤ b = leb-true 48 b (left (leb 48 b) (leb b 57) e) in
-    rw (ne-eqb b 32 (λ z. omega arith), ne-eqb b 10 (λ z. omega arith))
-  where
-    left : (s t : Bool) → s && t ≡ true → s ≡ true
-    left true t e = refl
-    left false t e = e
+pub digit-no-separator : (b : ℕ) → isDigit b ≡ true → isSeparator b ≡ false
+unfolding isSeparator
+digit-no-separator b e = let range = digit-range b e in rw (ne-eqb b 32 (λ z. omega arith), ne-eqb b 10 (λ z. omega arith))
 
 clear-digits : (most : ℕ) (text : List ℕ) → Clear (digitsOf most text)
 unfolding digitsOf
@@ -167,16 +164,16 @@ unfolding front
 clear-front [] = none
 clear-front (b ∷ text) = if-either Clear (eqb b minus) (λ e. more (minus-no-separator b e) (clear-digits 10 text)) (λ e. clear-digits 10 (b ∷ text))
 
-never : {X : Type 0} {b c : ℕ} → b ≡ c → isSeparator b ≡ true → isSeparator c ≡ false → X
-never e s n = let z : true ≡ false = sym s ∙ ap isSeparator e ∙ n in let o : _≡_ {A = ℕ} 0 1 = cc in absurd (omega arith)
+one-kind : {X : Type 0} {b c : ℕ} → b ≡ c → isSeparator b ≡ true → isSeparator c ≡ false → X
+one-kind e s n = never (sym n ∙ sym (ap isSeparator e) ∙ s)
 
 -- a text is parted into bytes that are no separators, and the rest, in one way
 one-word : {f g t rest : List ℕ} → Clear f → Parted g → Clear t → Parted rest → f ++ g ≡ t ++ rest → f ≡ t
 one-word none g none r e = refl
 one-word none nothing (more n t) r e = let o : _≡_ {A = ℕ} 0 1 = cc in absurd (omega arith)
-one-word none (separated s) (more n t) r e = never (cc) s n
+one-word none (separated s) (more n t) r e = one-kind (cc) s n
 one-word (more n f) g none nothing e = let o : _≡_ {A = ℕ} 0 1 = cc in absurd (omega arith)
-one-word (more n f) g none (separated s) e = never (cc) s n
+one-word (more n f) g none (separated s) e = one-kind (cc) s n
 one-word (more {b = b} {l = l} n f) g (more {b = c} {l = k} m t) r e =
     let first : b ≡ c = cc in
     let others : l ≡ k = one-word f g t r (cc) in
@@ -186,7 +183,7 @@ separator-no-digit : (b : ℕ) → isSeparator b ≡ true → isDigit b ≡ fals
 separator-no-digit b e = by-test (isDigit b) refl
   where
     by-test : (t : Bool) → isDigit b ≡ t → t ≡ false
-    by-test true d = never refl e (digit-no-separator b d)
+    by-test true d = one-kind refl e (digit-no-separator b d)
     by-test false d = refl
 
 no-digit : {rest : List ℕ} → Parted rest → Fronts.NoDigit rest
@@ -246,7 +243,7 @@ module _ (text : List ℕ) (at : ℕ) (t : TokenAt text at) where
   pub finds-other : (v : ℤ) (stop : ℕ) → numeralAt text at ≡ Ends v stop → endsHere text stop ≡ false → Begins (noNumber at) (tokensAt text at)
   finds-other v stop e h =
       says-none (Fronts.not-of-other text at (t .token) (t .rest) (t .stands) (no-digit (t .ends)) e
-      (λ place. let z : true ≡ false = sym ends-there ∙ ap (endsHere text) (sym place) ∙ h in let o : _≡_ {A = ℕ} 0 1 = cc in omega arith))
+      (λ place. never (sym h ∙ ap (endsHere text) place ∙ ends-there)))
 
   pub finds-none : numeralAt text at ≡ None → Begins (noNumber at) (tokensAt text at)
   finds-none e = says-none (Fronts.not-of-none text at (t .token) (t .rest) (t .stands) (no-digit (t .ends)) e)

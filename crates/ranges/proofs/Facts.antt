@@ -1,30 +1,36 @@
 -- What being in range tells.
 --     sides-of-negative, sides-of-whole     the two sides of y by its sign
 --     sides-are                             y is what lies to starboard less what lies to port
---     all-within                            no number of a table is outside: each is within its field's range
---     within-whole, within-natural          what that says of a whole number, and of a number's sign
+--     all-within, all-inside                no number of a table is outside: each is within its field's range; and the other way
+--     within-whole, whole-within            what that says of a whole number, and the other way
+--     within-size                           the same of the size of any number
+--     within-positive                       of a range from 0 on: each number is its own size
 --     half-breadths-in-range, particulars-in-range      the same as facts
+--     records-are                           what a count of whole records is
 -- Assumes nothing.
 use mathlib.Core.Path.{_≡_, refl, sym, ap, _∙_}
 use mathlib.Core.Bool.{Bool, true, false, _&&_}
 use mathlib.Core.List.{List, [], _∷_, map}
-use Prim.Native.Nat.{ℕ, zero, suc, _+_, _%_, _≤_, _<_}
+use Prim.Native.Nat.{ℕ, zero, suc, _+_, _%_, _/_, _≤_, _<_}
 use native.Mathlib.Nat.{zero-add, add-zero, mod-one}
 use native.Mathlib.Numerals.{add-one}
 use native.Mathlib.Omega.{arith}
-use borrow.Author.Tests.{leb-true}
-use lib.Dec.{leb}
+use borrow.Author.Tests.{leb-true, le-leb, eqb-true}
+use lib.Dec.{leb, eqb}
 use lib.IntN.{ℤ, pos, negsuc, natAbs, negℤ, _-ℤ_, +ℤ-idl, +ℤ-idr}
 use lib.ListN.{length, getD, List·getD-map, length-map}
 use Rattle.arithmetic.specs.Signed.{isNegative}
 use Rattle.arithmetic.specs.Choice.{if_then_else_}
-use Rattle.arithmetic.proofs.Tests.{both}
+use Rattle.arithmetic.proofs.Choice.{chosen}
+use Rattle.arithmetic.proofs.Tests.{both, never}
 use Rattle.ranges.specs.Fields.{Range, _to_, ±_, within, least, most, rangeOf, particulars, halfBreadth}
 use Rattle.ranges.specs.Outside.{outsideFrom, firstOutside, numbersOf}
 use Rattle.ranges.specs.InRange.{ParticularsInRange, HalfBreadthsInRange}
 use Rattle.ranges.specs.Sides.{sidesOf}
+use Rattle.ranges.specs.Sizes.{wholeRecords}
 use Rattle.ranges.specs.declared.Particulars.{Particulars}
 use Rattle.ranges.specs.declared.Sides.{Sides}
+use Rattle.ranges.proofs.Outside.{outside-le}
 
 -- ---- sides
 module _ (y : ℤ) (size : ℕ) (e : size ≡ natAbs y) where
@@ -64,9 +70,24 @@ inside section place (v ∷ rest) e (suc i) h =
     let at : place + suc i ≡ (place + 1) + i = omega arith in
     rw at (inside section (place + 1) rest (on .1) i (omega arith))
 
-pub all-within : (section : List Range) (table : List ℤ) → firstOutside section table ≡ length table → (i : ℕ) → i < length table → within (getD section (i % length section) (1 to 0)) (getD table i (pos 0)) ≡ true
+pub all-within : (section : List Range) (table : List ℤ) → length table ≤ firstOutside section table → (i : ℕ) → i < length table → within (getD section (i % length section) (1 to 0)) (getD table i (pos 0)) ≡ true
 unfolding firstOutside
-all-within section table e i h = rw zero-add at (inside section 0 table (e ∙ sym (zero-add _)) i h)
+all-within section table e i h =
+    let none : firstOutside section table ≡ length table = omega (arith, outside-le section table) in
+    rw zero-add at (inside section 0 table (none ∙ sym (zero-add _)) i h)
+
+-- and the other way
+walked : (section : List Range) (place : ℕ) (table : List ℤ) → ((i : ℕ) → i < length table → within (getD section ((place + i) % length section) (1 to 0)) (getD table i (pos 0)) ≡ true) → outsideFrom section place table ≡ place + length table
+unfolding outsideFrom
+walked section place [] h = sym (add-zero place)
+walked section place (v ∷ rest) h =
+    let first : within (getD section (place % length section) (1 to 0)) v ≡ true = rw add-zero at (h zero (omega arith)) in
+    let others = walked section (place + 1) rest (λ i l. let on : place + 1 + i ≡ place + suc i = omega arith in rw on (h (suc i) (omega arith))) in
+    rw first (simp chosen (omega arith))
+
+pub all-inside : (section : List Range) (table : List ℤ) → ((i : ℕ) → i < length table → within (getD section (i % length section) (1 to 0)) (getD table i (pos 0)) ≡ true) → firstOutside section table ≡ length table
+unfolding firstOutside
+all-inside section table h = walked section 0 table (λ i l. rw zero-add (h i l)) ∙ zero-add (length table)
 
 -- ---- what it says of a whole number
 between : (a b n : ℕ) → leb a n && leb n b ≡ true → (a ≤ n) × (n ≤ b)
@@ -77,11 +98,21 @@ unfolding within
 within-whole (a to b) n e = between a b n e
 within-whole (± b) n e = (omega arith, leb-true n b e)
 
--- a field that is never below 0
-pub within-natural : (a b : ℕ) (v : ℤ) → within (a to b) v ≡ true → isNegative v ≡ false
+pub whole-within : (a b n : ℕ) → (a ≤ n) × (n ≤ b) → within (a to b) (pos n) ≡ true
 unfolding within
-within-natural a b (pos n) e = refl
-within-natural a b (negsuc n) e = sym e
+whole-within a b n h = rw (le-leb a n (h .0), le-leb n b (h .1))
+
+pub within-size : (r : Range) (v : ℤ) → within r v ≡ true → (least r ≤ natAbs v) × (natAbs v ≤ most r)
+unfolding within
+within-size r (pos n) e = within-whole r n e
+within-size (a to b) (negsuc n) e = never e
+within-size (± b) (negsuc n) e = (omega arith, leb-true (suc n) b e)
+
+-- a field that is never below 0
+pub within-positive : (a b : ℕ) (v : ℤ) → within (a to b) v ≡ true → pos (natAbs v) ≡ v
+unfolding within
+within-positive a b (pos n) e = refl
+within-positive a b (negsuc n) e = never e
 
 -- a bound on each number of a table holds at every place, since beyond the end there is 0
 pub everywhere : (b : ℕ) (table : List ℕ) → ((k : ℕ) → k < length table → getD table k 0 ≤ b) → (k : ℕ) → getD table k 0 ≤ b
@@ -89,13 +120,13 @@ everywhere b [] h k = omega arith
 everywhere b (y ∷ rest) h zero = h zero (omega arith)
 everywhere b (y ∷ rest) h (suc k) = everywhere b rest (λ i l. h (suc i) (omega arith)) k
 
-pub half-breadths-in-range : (table : List ℕ) → firstOutside halfBreadth (map pos table) ≡ length table → HalfBreadthsInRange table
+pub half-breadths-in-range : (table : List ℕ) → length table ≤ firstOutside halfBreadth (map pos table) → HalfBreadthsInRange table
 half-breadths-in-range table e =
     everywhere (most (rangeOf 5)) table (λ k h.
-    let at = all-within halfBreadth (map pos table) (e ∙ sym (length-map table pos)) k (omega (arith, length-map table pos)) in
+    let at = all-within halfBreadth (map pos table) (omega (arith, length-map table pos)) k (omega (arith, length-map table pos)) in
     within-whole (rangeOf 5) (getD table k 0) (rw (mod-one, List·getD-map pos table k 0) at at) .1)
 
-pub particulars-in-range : (p : Particulars) → firstOutside particulars (numbersOf p) ≡ 5 → ParticularsInRange p
+pub particulars-in-range : (p : Particulars) → length particulars ≤ firstOutside particulars (numbersOf p) → ParticularsInRange p
 particulars-in-range p e =
     let at = all-within particulars (numbersOf p) e in
     let n = within-whole (rangeOf 0) (p .n) (at 0 (omega arith)) in
@@ -115,3 +146,10 @@ particulars-in-range p e =
       density-least = density .0;
       density-most = density .1;
     }
+
+-- ---- a count of whole records
+pub records-are : (width allowed count : ℕ) → wholeRecords width allowed count ≡ true → (count % width ≡ 0) × (count / width ≤ allowed)
+unfolding wholeRecords
+records-are width allowed count e =
+    let h = both (eqb (count % width) 0) (leb (count / width) allowed) e in
+    (eqb-true (count % width) 0 (h .0), leb-true (count / width) allowed (h .1))

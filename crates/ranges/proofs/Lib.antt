@@ -2,3 +2,4 @@
 pub mod Table
 pub mod Outside
 pub mod Facts
+pub mod Outcomes

@@ -1,13 +1,14 @@
 -- The walk over a table for its first number out of range.
 --     outside-step, outside-here, outside-end     the walk at place i: on, ended, past the last number
+--     outside-le                                  the first number outside stands in the table, or after its end
 --     field-next, field-after-lt                  the field after a field
 --     section-length, section-at                  a section as a part of the fields
 --     half-breadth-step, -here, -end              the walk over half-breadths, which are whole numbers
 -- Assumes nothing.
 use mathlib.Core.Path.{_≡_, refl, sym, ap, _∙_}
 use mathlib.Core.Bool.{Bool, true, false}
-use mathlib.Core.List.{List, map}
-use Prim.Native.Nat.{ℕ, _+_, _%_, _≤_, _<_}
+use mathlib.Core.List.{List, [], _∷_, map}
+use Prim.Native.Nat.{ℕ, suc, _+_, _%_, _≤_, _<_}
 use native.Mathlib.Nat.{mod-eq-of-lt, mod-self, mod-add-mod, mod-one}
 use native.Mathlib.Omega.{arith}
 use borrow.Author.Tests.{ltb-true, ltb-false}
@@ -36,6 +37,16 @@ module _ (section : List Range) (table : List ℤ) (i : ℕ) where
 pub outside-start : (section : List Range) (table : List ℤ) → outsideFrom section 0 (drop 0 table) ≡ firstOutside section table
 unfolding firstOutside
 outside-start section table = refl
+
+outside-from-le : (section : List Range) (place : ℕ) (table : List ℤ) → outsideFrom section place table ≤ place + length table
+unfolding outsideFrom
+outside-from-le section place [] = omega arith
+outside-from-le section place (v ∷ rest) =
+    if-either (λ n. n ≤ place + suc (length rest)) _ (λ e. omega (arith, outside-from-le section (place + 1) rest)) (λ e. omega arith)
+
+pub outside-le : (section : List Range) (table : List ℤ) → firstOutside section table ≤ length table
+unfolding firstOutside
+outside-le section table = omega (arith, outside-from-le section 0 table)
 
 -- the field after field k, which number i of a table has, is that of number i + 1
 pub field-next : (i k width : ℕ) → k ≡ i % width → k < width → fieldAfter k width ≡ (i + 1) % width

@@ -1,7 +1,6 @@
 -- The laws of this crate, for every crate above it.
 pub mod Pieces
 pub mod Fields
-pub mod Contents
 pub mod Sheets
 pub mod Unique
 pub mod Cut

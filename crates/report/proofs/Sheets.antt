@@ -12,46 +12,45 @@
 use Prim.Native.Nat.{ℕ, _+_, _*_, _-_, _/_, _≤_, _<_}
 use mathlib.Core.Path.{_≡_, refl, sym, ap, _∙_}
 use mathlib.Core.List.{List, _++_, map}
-use native.Mathlib.Nat.{mul-le-mul}
 use native.Mathlib.Omega.{arith}
 use borrow.Author.Tests.{lt-ltb, le-ltb, ltb-false}
-use lib.Dec.{ltb}
-use lib.IntN.{ℤ, pos, natAbs}
-use lib.ListN.{length, take, drop, getD, length-map}
+use lib.IntN.{ℤ, natAbs}
+use lib.ListN.{length, take, drop}
 use lib.Seq.{take-at, take-length}
 use Rattle.arithmetic.proofs.Choice.{chosen}
 use Rattle.arithmetic.proofs.Room.{laid-fits, laid-short}
 use Rattle.hydrostatics.specs.Promise as Rows
-use Rattle.hydrostatics.specs.Promise.{MakesRows, countOf, tableAfter}
+use Rattle.hydrostatics.specs.Promise.{MakesRows, tableAfter}
 use Rattle.hydrostatics.specs.Rows.{rowsOf}
 use Rattle.hydrostatics.specs.declared.Rows.{Rows as RowsAnswer}
 use Rattle.hydrostatics.specs.declared.Rows.the-variants as RowsAnswer
-use Rattle.hydrostatics.proofs.Passed.{counted, never, else-answered}
+use Rattle.hydrostatics.proofs.Passed.{counted, refused-count}
 use Rattle.hydrostatics.proofs.Usable.{Served, served}
 use Rattle.loading.specs.Condition.{conditionOf}
 use Rattle.loading.specs.Promise as Loading
 use Rattle.loading.specs.declared.Answer.{Answer}
 use Rattle.loading.specs.declared.Answer.the-variants as Answer
 use Rattle.loading.specs.declared.Condition.{Condition}
-use Rattle.offsets.specs.File.{Contents, points}
+use Rattle.offsets.specs.File.{Contents}
 use Rattle.offsets.specs.Reader as Reader
-use Rattle.offsets.specs.Reader.{Reads, readerOf, summaryOf, summarised, filled}
+use Rattle.offsets.specs.Reader.{Reads, readerOf, summaryOf, summarised}
 use Rattle.offsets.specs.declared.Read.{Read as ReadAnswer}
 use Rattle.offsets.specs.declared.Read.the-variants as ReadAnswer
 use Rattle.offsets.specs.declared.Summary.{Summary}
+use Rattle.offsets.proofs.Calls.{contents-read}
+use Rattle.offsets.proofs.Sound.{hull-most, points-le}
 use Rattle.ranges.specs.Outcome.{Outcome, answered, refused}
 use Rattle.ranges.specs.Refusals.{roomTooShort}
 use Rattle.ranges.specs.Sizes.{roomForHalfBreadths, roomForItems, roomForTanks}
 use Rattle.ranges.specs.declared.Particulars.{Particulars}
 use Rattle.ranges.specs.declared.Refusal.{Refusal}
+use Rattle.ranges.proofs.Outcomes.{refused-not, answer-same, not-refused}
 use Rattle.report.specs.Lines.{conditionLine, refusalLine}
 use Rattle.report.specs.Promise.{reportOf, Reports}
 use Rattle.report.specs.Putting.{Ready, Puts, WholeRows, longestSheet, mostConditionLine, mostRefusalLine, mostRowLine}
 use Rattle.report.specs.Sheet.{rowLines, conditionSaid, rowsSaid, roomForRows, fileSaid, sheetOf}
-use Rattle.offsets.proofs.Within.{answer-same}
 use Rattle.report.specs.declared.Report.{Report}
 use Rattle.report.specs.declared.Report.the-variants.{Lines, Refused}
-use Rattle.report.proofs.Contents.{Whole, whole-read}
 use Rattle.report.proofs.Pieces.{puts-both, puts-le}
 use Rattle.report.proofs.Unique.{paper-injective}
 
@@ -75,12 +74,6 @@ module _ (rows : List ℕ) (count : ℕ) (items tanks : List ℤ) {was mid end :
       (puts-le (puts-both lines (omega (arith, ready .room, whole .most)) line) longestSheet (omega (arith, whole .most)))
 
 -- ---- the rows
--- a refusal of the count is one of the rows
-refused-rows : (o : Outcome (List ℕ)) {number place : ℕ} → refused number place ≡ countOf o → o ≡ refused number place
-unfolding countOf
-refused-rows (answered numbers) e = never e
-refused-rows (refused number place) e = cc
-
 -- so many whole rows stand in front of a table
 pub record Made (table : List ℕ) (p : Particulars) (after : List ℕ) (count : ℕ) : Type 0 where
   pub is : rowsOf table p roomForRows ≡ answered (take (7 * count) after)
@@ -90,7 +83,7 @@ module _ {table : List ℕ} {p : Particulars} {rows after : List ℕ} {answer : 
   pub hull-refused : (items tanks : List ℤ) {f : Refusal} {was end : List ℕ} {last : ℕ} → answer ≡ RowsAnswer.Refused f → Puts mostRefusalLine (refusalLine (f .number) (f .place)) was 0 end last → Puts longestSheet (rowsSaid items tanks (rowsOf table p roomForRows)) was 0 end last
   unfolding rowsSaid
   hull-refused items tanks e line =
-      let so = refused-rows (rowsOf table p (length rows)) (sym (ap Rows.paper e) ∙ makes .answer-is) in
+      let so = refused-count (rowsOf table p (length rows)) (sym (ap Rows.paper e) ∙ makes .answer-is) in
       rw (ap (rowsOf table p) (sym long) ∙ so) (puts-le line longestSheet (omega arith))
 
   pub made-rows : {count : ℕ} → answer ≡ RowsAnswer.Made count → Made table p after count
@@ -116,14 +109,8 @@ module _ {table : List ℕ} {p : Particulars} {rows after : List ℕ} {answer : 
 -- ---- the file
 refused-file : (o : Outcome Contents) {number place : ℕ} → refused number place ≡ summarised o → o ≡ refused number place
 unfolding summarised
-refused-file (answered c) e = never e
+refused-file (answered c) e = refused-not e
 refused-file (refused number place) e = cc
-
--- an answer with a summary has contents
-summed : {X : Type 0} (o : Outcome Contents) {s : Summary} → answered s ≡ summarised o → ((c : Contents) → o ≡ answered c → s ≡ summaryOf c → X) → X
-unfolding summarised
-summed (answered c) e on = on c refl cc
-summed (refused number place) e on = never (sym e)
 
 -- the numbers of a whole file stand in front of three tables
 pub record Whole-read (text h : List ℕ) (i t : List ℤ) (s : Summary) : Type 0 where
@@ -152,33 +139,23 @@ module _ {text h₀ h : List ℕ} {i₀ i t₀ t : List ℤ} {answer : ReadAnswe
       rw (sym read-is ∙ so) (puts-le line longestSheet (omega arith))
 
   pub sheet-read : {s : Summary} → answer ≡ ReadAnswer.Sheet s → Whole-read text h i t s
-  unfolding filled
   sheet-read {s} e =
-      summed (readerOf text (length h₀) (length i₀) (length t₀)) (sym (ap Reader.paper e) ∙ reads .answer-is) (λ c so sum.
-      let whole : Whole c = whole-read text (length h₀) (length i₀) (length t₀) c so in
-      let grid-long : length (map natAbs (c .halfBreadths)) ≡ points (c .hull) =
-      length-map (c .halfBreadths) natAbs ∙ omega (arith, whole .grid .long, whole .grid .at-least, whole .grid .at-most) in
-      let items-long : length (c .items) ≡ 4 * (length (c .items) / 4) = omega (arith, whole .items .long) in
-      let tanks-long : length (c .tanks) ≡ 8 * (length (c .tanks) / 8) = omega (arith, whole .tanks .long) in
-      let h-is : h ≡ map natAbs (c .halfBreadths) ++ drop (length (map natAbs (c .halfBreadths))) h₀ = reads .half-breadths-left ∙ ap (λ o. filled (λ c. map natAbs (c .halfBreadths)) o h₀) so in
-      let i-is : i ≡ c .items ++ drop (length (c .items)) i₀ = reads .items-left ∙ ap (λ o. filled (λ c. c .items) o i₀) so in
-      let t-is : t ≡ c .tanks ++ drop (length (c .tanks)) t₀ = reads .tanks-left ∙ ap (λ o. filled (λ c. c .tanks) o t₀) so in
-      let n-most : natAbs (getD (c .hull) 0 (pos 0)) + 1 ≤ 41 = omega (arith, whole .n-most) in
-      let m-most : natAbs (getD (c .hull) 1 (pos 0)) + 1 ≤ 21 = omega (arith, whole .m-most) in
-      rw sum
+      let x = contents-read (rw e at reads) in
+      let most = hull-most (x .sound .hull) in
+      rw (x .summary-is)
       (record {
-        contents = c;
-        is = sym read-is ∙ so;
+        contents = x .contents;
+        is = sym read-is ∙ x .read;
         summary-is = refl;
-        n-most = whole .n-most;
-        m-most = whole .m-most;
-        grid-most = mul-le-mul n-most m-most;
-        items-most = omega (arith, whole .items .long, whole .items .at-most);
-        tanks-most = omega (arith, whole .tanks .long, whole .tanks .at-most);
-        grid-front = ap (take (points (c .hull))) h-is ∙ take-at (map natAbs (c .halfBreadths)) _ (points (c .hull)) grid-long;
-        items-front = ap (take (4 * (length (c .items) / 4))) i-is ∙ take-at (c .items) _ (4 * (length (c .items) / 4)) items-long;
-        tanks-front = ap (take (8 * (length (c .tanks) / 8))) t-is ∙ take-at (c .tanks) _ (8 * (length (c .tanks) / 8)) tanks-long;
-      }))
+        n-most = most .0;
+        m-most = most .1;
+        grid-most = points-le (x .sound .hull);
+        items-most = x .sound .few-items;
+        tanks-most = x .sound .few-tanks;
+        grid-front = x .half-breadths-are;
+        items-front = x .items-are;
+        tanks-front = x .tanks-are;
+      })
 
   pub file-read :
       {s : Summary} {was end : List ℕ} {last : ℕ}
@@ -226,7 +203,7 @@ module _ (text : List ℕ) {lines after : List ℕ} {n : ℕ} (put : Puts longes
 pub lines-within : {text room left : List ℕ} {n : ℕ} → Reports text room left (Lines n) → n ≤ length room
 unfolding reportOf
 lines-within {text} {room} reports =
-    let fits = else-answered (ltb (length room) (length (sheetOf text))) roomTooShort (length (sheetOf text)) _ (sym (reports .answer-is)) in
+    let fits = not-refused roomTooShort (length (sheetOf text)) (sym (reports .answer-is)) in
     let same : length (sheetOf text) ≡ _ = answer-same (fits .1) in
     omega (arith, ltb-false (length room) (length (sheetOf text)) (fits .0), same)
 

@@ -3,21 +3,18 @@
 --     reports-unique        so two answers with rooms that both keep one promise are equal
 -- Assumes nothing.
 use Prim.Native.Nat.{ℕ}
-use mathlib.Core.Path.{_≡_, sym, ap₂, _∙_}
+use mathlib.Core.Path.{_≡_, sym, ap, _∙_}
 use mathlib.Core.List.{List}
-use Rattle.hydrostatics.proofs.Passed.{never}
+use Rattle.ranges.proofs.Outcomes.{refused-not, refusal-same}
 use Rattle.report.specs.Promise.{paper, Reports}
 use Rattle.report.specs.declared.Report.{Report}
 use Rattle.report.specs.declared.Report.the-variants.{Lines, Refused}
 
 pub paper-injective : (a b : Report) → paper a ≡ paper b → a ≡ b
 paper-injective (Lines m) (Lines n) e = cc
-paper-injective (Lines m) (Refused s) e = never (sym e)
-paper-injective (Refused r) (Lines n) e = never e
-paper-injective (Refused r) (Refused s) e =
-    let number : r .number ≡ s .number = cc in
-    let place : r .place ≡ s .place = cc in
-    ap₂ (λ n p. Refused (record { number = n; place = p })) number place
+paper-injective (Lines m) (Refused s) e = refused-not (sym e)
+paper-injective (Refused r) (Lines n) e = refused-not e
+paper-injective (Refused r) (Refused s) e = ap Refused (refusal-same r s e)
 
 pub reports-unique : {text room left left′ : List ℕ} {answer answer′ : Report} → Reports text room left answer → Reports text room left′ answer′ → (answer ≡ answer′) × (left ≡ left′)
 reports-unique {answer} {answer′} one other =

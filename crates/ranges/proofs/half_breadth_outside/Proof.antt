@@ -10,12 +10,6 @@ use lib.ListN.{length, drop}
 use Rattle.ranges.specs.Fields.{halfBreadth}
 use Rattle.ranges.specs.Outside.{outsideFrom, firstOutside}
 use Rattle.ranges.proofs.Outside.{outside-start, half-breadth-step, half-breadth-here, half-breadth-end}
-use mathlib.Core.Path.{_≡_, sym, ap, subst, _∙_}
-use mathlib.Core.Bool.{Bool, true, false}
-use native.Mathlib.Nat.{mod-one}
-use lib.ListN.{length, getD, drop, length-map, List·getD-map}
-use Rattle.ranges.specs.Fields.{within, rangeOf, halfBreadth}
-use Rattle.ranges.proofs.Outside.{outside-step, outside-here, outside-end, outside-start}
 use Rattle.ranges.proofs.half_breadth_outside.Statement.{statement}
 use Rattle.ranges.proofs.half_breadth_outside.Tie as tie
 

@@ -1,7 +1,7 @@
 -- Each return is what its tests tell; a remainder by 0 is the number itself. Assumes nothing.
 use Prim.Native.Nat.{ℕ}
-use mathlib.Core.Bool.{Bool, true, false, _&&_}
-use mathlib.Core.Path.{_≡_, refl, sym}
+use mathlib.Core.Bool.{and-true}
+use mathlib.Core.Path.{_≡_, sym}
 use native.Mathlib.Nat.{mod-zero, div-zero}
 use native.Mathlib.Omega.{arith}
 use borrow.Author.Tests.{eq-eqb, ne-eqb, le-leb}
@@ -14,10 +14,6 @@ use Rattle.ranges.proofs.whole_records.Tie as tie
 of-no-width : (allowed count : ℕ) → wholeRecords 0 allowed count ≡ eqb count 0
 unfolding wholeRecords
 of-no-width allowed count = rw (mod-zero count, div-zero count, le-leb 0 allowed (omega arith)) (and-true (eqb count 0))
-  where
-    and-true : (t : Bool) → t && true ≡ t
-    and-true true = refl
-    and-true false = refl
 
 returns : tie.Need-returns
 returns c = rw (c .if1 .taken) (sym (of-no-width (c .before .args .allowed) (c .before .args .count)))

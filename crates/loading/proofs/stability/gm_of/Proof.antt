@@ -3,7 +3,7 @@ use mathlib.Core.Path.{ap, _∙_}
 use native.Mathlib.Omega.{arith}
 use lib.IntN.{pos, _-ℤ_}
 use Rattle.arithmetic.proofs.Crossing.{back-is}
-use Rattle.loading.proofs.Heels.{quotient-most}
+use Rattle.arithmetic.proofs.Rounding.{up-of, up-le}
 use borrow.Author.Needs.{needs}
 use Rattle.loading.proofs.stability.gm_of.Statement.{statement}
 use Rattle.loading.proofs.stability.gm_of.Tie as tie
@@ -14,7 +14,7 @@ rounded-up-requires c κs = search needs
 less-requires : tie.Need-less-requires
 less-requires c κs =
     let s = c .before in
-    (omega arith, omega (arith, c .rounded-up .ensures, quotient-most (s .args .moment) (s .args .weight) (omega arith)))
+    (omega arith, omega (arith, c .rounded-up .ensures, up-le (up-of (s .args .moment) (s .args .weight) (omega arith))))
 
 returns : tie.Need-returns
 returns c =

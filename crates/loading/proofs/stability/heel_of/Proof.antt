@@ -6,8 +6,9 @@ use native.Mathlib.Omega.{arith}
 use lib.Dec.{lit≤}
 use lib.IntN.{natAbs}
 use Rattle.arithmetic.proofs.Crossing.{heard, back-is}
+use Rattle.arithmetic.proofs.Floats.{exact-whole, exact-signed}
 use Rattle.loading.specs.Steady.{aboveZero}
-use Rattle.loading.proofs.Heels.{unstable, upright, heeled, beyond, exact-whole, exact-signed}
+use Rattle.loading.proofs.Heels.{unstable, upright, heeled, beyond}
 use borrow.Author.Needs.{needs}
 use Rattle.loading.proofs.stability.heel_of.Statement.{statement}
 use Rattle.loading.proofs.stability.heel_of.Tie as tie
@@ -55,7 +56,7 @@ int-to-float-t10 c =
 
 int-to-float-t11 : tie.Need-int-to-float-t11
 int-to-float-t11 c =
-    exact-whole _ (le-trans (righting (c .before .before .before .before .before .before)) (lit≤ tt))
+    exact-whole (le-trans (righting (c .before .before .before .before .before .before)) (lit≤ tt))
 
 returns-3 : tie.Need-returns-3
 returns-3 c =

@@ -8,8 +8,9 @@ use lib.ListN.{length}
 use Rattle.arithmetic.proofs.Products.{product-fits}
 use Rattle.ranges.specs.Fields.{particulars}
 use Rattle.ranges.specs.Outside.{firstOutside, numbersOf}
+use Rattle.ranges.proofs.Facts.{particulars-in-range}
 use Rattle.offsets.proofs.Tried.{refuses-particular, refuses-half-breadth-size, refuses-item-size, refuses-tank-size}
-use Rattle.offsets.proofs.WholeText.{hull-in-range, writes-refused}
+use Rattle.offsets.proofs.WholeText.{writes-refused}
 use Rattle.offsets.proofs.writer.write_file.Statement.{statement}
 use Rattle.offsets.proofs.writer.write_file.Tie as tie
 
@@ -26,14 +27,14 @@ returns : tie.Need-returns
 returns c = writes-refused (refuses-particular _ _ _ _ _ (c .before .before .particular-outside .ensures) (c .before .if1 .taken)) (c .refused .ensures)
 
 add-if2 : tie.Need-add-if2
-add-if2 c = let hull = hull-in-range _ (particulars-in (c .before)) in omega arith
+add-if2 c = let hull = particulars-in-range _ (particulars-in (c .before)) in omega arith
 
 add-if2-2 : tie.Need-add-if2-2
-add-if2-2 c = let hull = hull-in-range _ (particulars-in (c .before .before)) in omega arith
+add-if2-2 c = let hull = particulars-in-range _ (particulars-in (c .before .before)) in omega arith
 
 mul-if2 : tie.Need-mul-if2
 mul-if2 c =
-    let hull = hull-in-range _ (particulars-in (c .before .before)) in
+    let hull = particulars-in-range _ (particulars-in (c .before .before)) in
     let p = c .before .before .before .before .before .before .args .p in
     let long : p .n + 1 ≤ 41 = omega arith in
     let high : p .m + 1 ≤ 21 = omega arith in
