@@ -16,3 +16,4 @@ pub mod Reading
 pub mod Usable
 pub mod Unique
 pub mod Shown
+pub mod Numbered

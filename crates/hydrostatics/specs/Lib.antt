@@ -5,5 +5,6 @@ pub mod Rows
 pub mod Usable
 pub mod Display
 pub mod Promise
+-- Words of private contracts: no public promise is made in them.
 pub mod Waterplanes
 pub mod Table

@@ -25,3 +25,4 @@ pub mod Unique
 pub mod Answers
 pub mod Demand3
 pub mod Figures
+pub mod Numbered

@@ -1,5 +1,6 @@
--- A number as text: what a token says, what is printed, the number that stands at the front of a text, and a number by its sign.
+-- A number as text: what a token says, the number that stands at the front of a text, and what is printed.
 pub mod Number
 pub mod Front
 pub mod Printed
+-- Words of private contracts: no public promise is made in them.
 pub mod Sign

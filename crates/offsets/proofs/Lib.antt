@@ -16,3 +16,4 @@ pub mod Unique
 pub mod Calls
 pub mod Put
 pub mod WholeText
+pub mod Numbered

@@ -2,8 +2,9 @@
 pub mod Tokens
 pub mod Reading
 pub mod File
-pub mod Steps
 pub mod Reader
 pub mod Written
 pub mod Writer
+-- Words of private contracts: no public promise is made in them.
+pub mod Steps
 pub mod Putting

@@ -3,3 +3,4 @@ pub mod Table
 pub mod Outside
 pub mod Facts
 pub mod Outcomes
+pub mod Numbered

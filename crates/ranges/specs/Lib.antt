@@ -4,7 +4,7 @@ pub mod Outcome
 pub mod Fields
 pub mod Sizes
 pub mod Outside
-pub mod InRange
 pub mod Sides
--- words of private contracts
+-- Words of private contracts: no public promise is made in them.
+pub mod InRange
 pub mod Bounds

@@ -4,3 +4,4 @@ pub mod Fields
 pub mod Sheets
 pub mod Unique
 pub mod Cut
+pub mod Numbered

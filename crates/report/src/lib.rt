@@ -5,7 +5,6 @@ mod sheet;
 ghost use Prim.Native.Nat.{_≤_};
 ghost use lib.ListN.{length};
 ghost use Rattle.report.specs.Promise.{Reports};
-ghost use Rattle.report.specs.Putting.{longestSheet};
 ghost use Rattle.report.specs.Sheet.{sheetOf};
 use ranges::Refusal;
 
@@ -21,7 +20,7 @@ pub const LONGEST_SHEET: usize = 3_173;
 // Makes the sheet of a file's text, and puts its lines into the lent room, where they fit.
 pub fn make_report(text: &[u8], room: &mut [u8]) -> Report
     ensures { λ r. ⌜ Reports (now (text .entry)) (now (room .entry)) (now (room .exit)) r ⌝ }
-    ensures { λ _. ⌜ length (sheetOf (now (text .entry))) ≤ longestSheet ⌝ }
+    ensures { λ _. do longest ← ⟦LONGEST_SHEET⟧ .entry; ⌜ length (sheetOf (now (text .entry))) ≤ longest ⌝ }
 {
     let mut lines = [0u8; LONGEST_SHEET];
     let length = sheet::put_sheet(text, &mut lines);

@@ -1,2 +1,3 @@
 -- The laws behind the calls for other languages.
 pub mod Telling
+pub mod Apart

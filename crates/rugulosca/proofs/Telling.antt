@@ -1,16 +1,21 @@
 -- What is left when a call's outcome is known.
 --     told          the values of an answer
 --     declined      a refusal
+--     told-apart    an outcome that is told by 0 is an answer
+--     tells-unique  one outcome is told in one way
 --     same-values, same-tangent    equal outcomes leave the same
 --     rows-at, written-at    the promises beneath, at particulars that are equal
 -- Assumes nothing.
 use Prim.Native.Nat.{ℕ}
-use mathlib.Core.Path.{_≡_, ap, subst}
+use mathlib.Core.Path.{_≡_, refl, ap, subst}
 use mathlib.Core.List.{List}
+use native.Mathlib.Omega.{arith}
 use lib.Ieee.{Float}
 use lib.IntN.{ℤ}
+use Rattle.arithmetic.proofs.Only.{only}
 use Rattle.ranges.specs.Outcome.{Outcome, answered, refused}
 use Rattle.ranges.specs.declared.Particulars.{Particulars}
+use Rattle.ranges.proofs.Numbered.{Numbered}
 use Rattle.hydrostatics.specs.Promise.{MakesRows}
 use Rattle.hydrostatics.specs.declared.Rows.{Rows}
 use Rattle.loading.specs.declared.Condition.{Condition}
@@ -25,6 +30,14 @@ told value {was} {place} e =
 pub declined : {A B : Type 0} (value : A → B) {o : Outcome A} {was : B} {place number p : ℕ} → refused number p ≡ o → Tells value o was was place p number
 declined value {was} {place} e =
     record { number-is = ap numberOf e; place-is = ap (λ o. placeAfter o place) e; value-is = ap (λ o. valueAfter value o was) e }
+
+pub told-apart : {A : Type 0} {o : Outcome A} → Numbered o → numberOf o ≡ 0 → (a : A) × (o ≡ answered a)
+told-apart {o = answered a} h e = (a, refl)
+told-apart {o = refused number place} h e = let fourteen = h .one-of-fourteen refl in absurd (omega arith)
+
+pub tells-unique : {A B : Type 0} {value : A → B} {o : Outcome A} {was left left′ : B} {place placeLeft placeLeft′ number number′ : ℕ}
+    → Tells value o was left place placeLeft number → Tells value o was left′ place placeLeft′ number′ → (number ≡ number′) × (placeLeft ≡ placeLeft′) × (left ≡ left′)
+tells-unique t u = (only (t .number-is) (u .number-is), only (t .place-is) (u .place-is), only (t .value-is) (u .value-is))
 
 pub same-values : {A B : Type 0} (value : A → B) {o q : Outcome A} (was : B) → o ≡ q → valueAfter value o was ≡ valueAfter value q was
 same-values value was e = ap (λ o. valueAfter value o was) e

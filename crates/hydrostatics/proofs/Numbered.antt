@@ -1,0 +1,40 @@
+-- What rows, display and a table's use refuse has one of the paper's fourteen numbers.
+--     up-to-numbered, rows-numbered     the rows of a hull
+--     count-numbered                    and what is answered of them
+--     display-numbered                  the display of a row
+--     usable-numbered                   the use of a table of rows
+-- Assumes nothing.
+use Prim.Native.Nat.{ℕ, zero, suc, _-_}
+use mathlib.Core.List.{List}
+use Rattle.ranges.specs.Outcome.{Outcome, answered, refused}
+use Rattle.ranges.specs.declared.Particulars.{Particulars}
+use Rattle.ranges.proofs.Numbered.{Numbered, numbered, answered-numbered, passed-on, then-numbered}
+use Rattle.hydrostatics.specs.Display.{displayOf}
+use Rattle.hydrostatics.specs.Promise.{countOf}
+use Rattle.hydrostatics.specs.Rows.{rowsUpTo, rowsOf}
+use Rattle.hydrostatics.specs.Usable.{usableUpTo}
+use Rattle.hydrostatics.specs.declared.Row.{Row}
+
+module _ (table : List ℕ) (p : Particulars) where
+  pub up-to-numbered : (count : ℕ) → Numbered (rowsUpTo table p count)
+  unfolding rowsUpTo
+  up-to-numbered zero = search numbered
+  up-to-numbered (suc r) = then-numbered (up-to-numbered r) (λ before. search numbered)
+
+  pub rows-numbered : (room : ℕ) → Numbered (rowsOf table p room)
+  unfolding rowsOf
+  rows-numbered room = let rest = up-to-numbered (p .m - 1) in search numbered depth 8
+
+pub count-numbered : (o : Outcome (List ℕ)) → Numbered o → Numbered (countOf o)
+unfolding countOf
+count-numbered (answered numbers) h = answered-numbered _
+count-numbered (refused number place) h = passed-on h
+
+pub display-numbered : (row : Row) → Numbered (displayOf row)
+unfolding displayOf
+display-numbered row = search numbered
+
+pub usable-numbered : (rows : List ℕ) (count : ℕ) → Numbered (usableUpTo rows count)
+unfolding usableUpTo
+usable-numbered rows zero = search numbered
+usable-numbered rows (suc r) = then-numbered (usable-numbered rows r) (λ good. search numbered)

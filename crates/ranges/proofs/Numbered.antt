@@ -1,0 +1,44 @@
+-- A refusal has one of the paper's fourteen numbers; so none has 0. Each part that definitions are made of keeps this.
+--     Numbered              a refusal's number is 1 to 14
+--     answered-numbered     an answer
+--     refused-numbered      a refusal with such a number
+--     passed-on             a refusal that is passed on, in place of another answer
+--     if-numbered           a test, if both ways are
+--     then-numbered         a step, if what stands before it and all that may follow are
+--     numbered              all of these, for a definition of tests: `search numbered`, and `depth` by the count of tests
+-- Assumes nothing.
+use mathlib.Core.Path.{_≡_, refl, sym}
+use mathlib.Core.Bool.{Bool}
+use Prim.Native.Nat.{ℕ, _≤_}
+use native.Mathlib.Omega.{arith}
+use lib.Dec.{lit≤}
+use Rattle.arithmetic.specs.Choice.{if_then_else_}
+use Rattle.arithmetic.proofs.Choice.{if-either}
+use Rattle.ranges.specs.Outcome.{Outcome, answered, refused, andThen}
+use Rattle.ranges.proofs.Outcomes.{refused-not}
+
+-- "Refusals by number": the paper's fourteen
+pub record Numbered {A : Type 0} (outcome : Outcome A) : Type 0 where
+  pub one-of-fourteen : {number place : ℕ} → outcome ≡ refused number place → (1 ≤ number) × (number ≤ 14)
+
+pub answered-numbered : {A : Type 0} (a : A) → Numbered (answered a)
+answered-numbered a = record { one-of-fourteen = λ e. refused-not (sym e) }
+
+pub refused-numbered : {A : Type 0} {number place : ℕ} → 1 ≤ number → number ≤ 14 → Numbered {A = A} (refused number place)
+refused-numbered {number} least most =
+    record { one-of-fourteen = λ {number = n} e. let same : number ≡ n = cc in (omega arith, omega arith) }
+
+pub passed-on : {A B : Type 0} {number place : ℕ} → Numbered {A = A} (refused number place) → Numbered {A = B} (refused number place)
+passed-on h = let fourteen = h .one-of-fourteen refl in refused-numbered (fourteen .0) (fourteen .1)
+
+-- ---- tests
+pub if-numbered : {A : Type 0} {a b : Outcome A} (t : Bool) → Numbered a → Numbered b → Numbered (if t then a else b)
+if-numbered t x y = if-either Numbered t (λ e. x) (λ e. y)
+
+-- ---- steps
+pub then-numbered : {A B : Type 0} {o : Outcome A} {next : A → Outcome B} → Numbered o → ((a : A) → Numbered (next a)) → Numbered (andThen o next)
+unfolding andThen
+then-numbered {o = answered a} first further = further a
+then-numbered {o = refused number place} first further = passed-on first
+
+pub ruleset numbered = (answered-numbered, refused-numbered, if-numbered, then-numbered, lit≤, tt)

@@ -1,0 +1,11 @@
+-- What the sheet's call refuses has one of the paper's fourteen numbers.
+--     report-numbered     room too short, and nothing else
+-- Assumes nothing.
+use Prim.Native.Nat.{ℕ}
+use mathlib.Core.List.{List}
+use Rattle.ranges.proofs.Numbered.{Numbered, numbered}
+use Rattle.report.specs.Promise.{reportOf}
+
+pub report-numbered : (text : List ℕ) (room : ℕ) → Numbered (reportOf text room)
+unfolding reportOf
+report-numbered text room = search numbered

@@ -1,0 +1,67 @@
+-- The number that a call returns tells an answer from a refusal.
+--     Apart     0 exactly where the outcome is an answer, and else one of the paper's fourteen numbers
+--     apart     so it is of every outcome whose refusals have these numbers
+--     report-apart, read-apart, write-apart, rows-apart, display-apart, condition-apart     and so of each call, by what it promises
+-- Assumes nothing.
+use Prim.Native.Nat.{ℕ, _≤_}
+use mathlib.Core.Path.{_≡_, ap, sym, _∙_}
+use mathlib.Core.List.{List}
+use native.Mathlib.Omega.{arith}
+use lib.Ieee.{Float}
+use lib.IntN.{ℤ}
+use Rattle.ranges.specs.Outcome.{Outcome, answered, refused}
+use Rattle.ranges.specs.declared.Particulars.{Particulars}
+use Rattle.ranges.proofs.Numbered.{Numbered}
+use Rattle.offsets.specs.Reader.{readerOf, summarised}
+use Rattle.offsets.specs.Writer.{writerOf, lengthOf}
+use Rattle.offsets.proofs.Numbered.{reader-numbered, writer-numbered, summarised-numbered, length-numbered}
+use Rattle.hydrostatics.specs.Display.{displayOf}
+use Rattle.hydrostatics.specs.Promise.{countOf}
+use Rattle.hydrostatics.specs.Rows.{rowsOf}
+use Rattle.hydrostatics.specs.declared.Row.{Row}
+use Rattle.hydrostatics.proofs.Numbered.{rows-numbered, count-numbered, display-numbered}
+use Rattle.loading.specs.Condition.{conditionOf}
+use Rattle.loading.proofs.Numbered.{condition-numbered}
+use Rattle.report.specs.Promise.{reportOf}
+use Rattle.report.proofs.Numbered.{report-numbered}
+use Rattle.rugulosca.specs.Told.{numberOf, Tells, summaryNumbers, figureNumbers, wholesOf}
+use Rattle.rugulosca.proofs.Telling.{told-apart}
+
+pub record Apart {A : Type 0} (outcome : Outcome A) (number : ℕ) : Type 0 where
+  pub zero-answered : number ≡ 0 → (a : A) × (outcome ≡ answered a)
+  pub answered-zero : {a : A} → outcome ≡ answered a → number ≡ 0
+  pub else-numbered : {n place : ℕ} → outcome ≡ refused n place → (number ≡ n) × (1 ≤ number) × (number ≤ 14)
+
+pub apart : {A B : Type 0} {value : A → B} {o : Outcome A} {was left : B} {place placeLeft number : ℕ} → Numbered o → Tells value o was left place placeLeft number → Apart o number
+apart {number} h t = record {
+  zero-answered = λ e. told-apart h (sym (t .number-is) ∙ e);
+  answered-zero = λ e. t .number-is ∙ ap numberOf e;
+  else-numbered = λ {n} e.
+      let is : number ≡ n = t .number-is ∙ ap numberOf e in
+      let fourteen = h .one-of-fourteen e in
+      (is, omega arith, omega arith);
+}
+
+-- ---- the calls
+module _ {place placeLeft number : ℕ} where
+  pub report-apart : (text : List ℕ) (room : ℕ) {was left : ℕ} → Tells (λ n. n) (reportOf text room) was left place placeLeft number → Apart (reportOf text room) number
+  report-apart text room t = apart (report-numbered text room) t
+
+  pub read-apart : (text : List ℕ) (halfBreadths items tanks : ℕ) {was left : List ℕ}
+      → Tells summaryNumbers (summarised (readerOf text halfBreadths items tanks)) was left place placeLeft number → Apart (summarised (readerOf text halfBreadths items tanks)) number
+  read-apart text halfBreadths items tanks t = apart (summarised-numbered _ (reader-numbered text halfBreadths items tanks)) t
+
+  pub write-apart : (p : Particulars) (halfBreadths : List ℕ) (items tanks : List ℤ) (room : ℕ) {was left : ℕ}
+      → Tells (λ n. n) (lengthOf (writerOf p halfBreadths items tanks room)) was left place placeLeft number → Apart (lengthOf (writerOf p halfBreadths items tanks room)) number
+  write-apart p halfBreadths items tanks room t = apart (length-numbered _ (writer-numbered p halfBreadths items tanks room)) t
+
+  pub rows-apart : (table : List ℕ) (p : Particulars) (room : ℕ) {was left : ℕ}
+      → Tells (λ n. n) (countOf (rowsOf table p room)) was left place placeLeft number → Apart (countOf (rowsOf table p room)) number
+  rows-apart table p room t = apart (count-numbered _ (rows-numbered table p room)) t
+
+  pub display-apart : (row : Row) {was left : List Float} → Tells figureNumbers (displayOf row) was left place placeLeft number → Apart (displayOf row) number
+  display-apart row t = apart (display-numbered row) t
+
+  pub condition-apart : (items tanks : List ℤ) (rows : List ℕ) {was left : List ℕ}
+      → Tells wholesOf (conditionOf items tanks rows) was left place placeLeft number → Apart (conditionOf items tanks rows) number
+  condition-apart items tanks rows t = apart (condition-numbered items tanks rows) t
