@@ -99,6 +99,16 @@ module _ {p : Particulars} {h : List ℕ} {i t : List ℤ} {room : List ℕ} whe
   unfolding lengthOf roomAfter
   writes-refused e a = record { answer-is = rw (e, a); left = rw e }
 
+  pub writes-straight : {left : List ℕ} {count : ℕ} → Passes p h i t → Puts (textOf p h i t) room 0 left count → longestFile ≤ length room → Writes p h i t room left (Wrote count)
+  unfolding lengthOf roomAfter
+  writes-straight {count = count} o put big =
+      let whole = textOf p h i t in
+      let fits : RoomFor whole room 0 = room-for-text o big in
+      let count-is : count ≡ length whole = put .next-is ∙ omega arith in
+      let answer = answers p h i t (length room) o (omega (arith, fits .enough)) in
+      let beyond : 0 + length whole ≡ length whole = omega arith in
+      record { answer-is = rw (answer, count-is); left = put .left ∙ sets-eq whole room 0 (fits .enough) ∙ rw (answer, beyond) }
+
   module _ {array : List ℕ} {count : ℕ} (o : Passes p h i t) (s : TextStands p h i t array count) where
     pub writes-short : {answer : Written} → length room < count → answer ≡ Refused (record { number = roomTooShort; place = count }) → Writes p h i t room room answer
     writes-short l a =

@@ -80,6 +80,24 @@ fn write_text(
     requires { ⌜ Passes p (now «half_breadths») (now items) (now tanks) ⌝ }
     ensures { λ r. ⌜ Writes p (now («half_breadths» .entry)) (now (items .entry)) (now (tanks .entry)) (now (room .entry)) (now (room .exit)) r ⌝ }
 {
+    // Room that holds any file takes the text as it is made.
+    if ranges::LONGEST_FILE <= room.len() {
+        return Written::Wrote(put_file(p, half_breadths, items, tanks, room));
+    }
+    write_apart(p, half_breadths, items, tanks, room)
+}
+
+// The same by a text of its own, which is copied where it fits.
+fn write_apart(
+    p: Particulars,
+    half_breadths: &[u64],
+    items: &[i64],
+    tanks: &[i64],
+    room: &mut [u8],
+) -> Written
+    requires { ⌜ Passes p (now «half_breadths») (now items) (now tanks) ⌝ }
+    ensures { λ r. ⌜ Writes p (now («half_breadths» .entry)) (now (items .entry)) (now (tanks .entry)) (now (room .entry)) (now (room .exit)) r ⌝ }
+{
     let mut text = [0u8; ranges::LONGEST_FILE];
     let count = put_file(p, half_breadths, items, tanks, &mut text);
     if room.len() < count {

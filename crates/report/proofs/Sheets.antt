@@ -7,6 +7,7 @@
 --     Whole-read, sheet-read        what the reader left: the file's numbers, in front of the tables
 --     file-read                     so that the lines follow
 --     report-short, report-fits     the lines in the lent room
+--     report-straight               the same, put straight into room for any sheet
 --     lines-within, never-short     so many bytes of the room hold them; room for the longest sheet is never too short
 -- Assumes nothing.
 use Prim.Native.Nat.{ℕ, _+_, _*_, _-_, _/_, _≤_, _<_}
@@ -198,6 +199,17 @@ module _ (text : List ℕ) {lines after : List ℕ} {n : ℕ} (put : Puts longes
             ∙ ap (λ l. l ++ drop (length (sheetOf text)) room) (take-length (sheetOf text))
             ∙ sym (laid-fits (sheetOf text) room fits);
       }
+
+-- the lines were put straight into room for any sheet
+pub report-straight : {text room left : List ℕ} {n : ℕ} → Puts longestSheet (sheetOf text) room 0 left n → longestSheet ≤ length room → Reports text room left (Lines n)
+unfolding reportOf
+report-straight {text} {room} {n = n} put big =
+    let count-is : n ≡ length (sheetOf text) = put .next-is ∙ omega arith in
+    let fits : length (sheetOf text) ≤ length room = omega (arith, put .few) in
+    record {
+      answer-is = rw count-is (simp (le-ltb (length room) (length (sheetOf text)) fits, chosen));
+      left = put .left ∙ rw count-is (sym (laid-fits (sheetOf text) room fits));
+    }
 
 -- the lines lie in the room that they were put into
 pub lines-within : {text room left : List ℕ} {n : ℕ} → Reports text room left (Lines n) → n ≤ length room

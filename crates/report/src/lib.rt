@@ -22,6 +22,18 @@ pub fn make_report(text: &[u8], room: &mut [u8]) -> Report
     ensures { λ r. ⌜ Reports (now (text .entry)) (now (room .entry)) (now (room .exit)) r ⌝ }
     ensures { λ _. do longest ← ⟦LONGEST_SHEET⟧ .entry; ⌜ length (sheetOf (now (text .entry))) ≤ longest ⌝ }
 {
+    // Room that holds any sheet takes the lines as they are made.
+    if LONGEST_SHEET <= room.len() {
+        return Report::Lines(sheet::put_sheet(text, room));
+    }
+    make_apart(text, room)
+}
+
+// The same by lines of its own, which are copied where they fit.
+fn make_apart(text: &[u8], room: &mut [u8]) -> Report
+    ensures { λ r. ⌜ Reports (now (text .entry)) (now (room .entry)) (now (room .exit)) r ⌝ }
+    ensures { λ _. do longest ← ⟦LONGEST_SHEET⟧ .entry; ⌜ length (sheetOf (now (text .entry))) ≤ longest ⌝ }
+{
     let mut lines = [0u8; LONGEST_SHEET];
     let length = sheet::put_sheet(text, &mut lines);
     if room.len() < length {
