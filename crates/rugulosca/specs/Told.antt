@@ -7,7 +7,6 @@ use lib.Ieee.{Float}
 use lib.IntN.{ℤ, natAbs}
 use lib.ListN.{getD}
 use Rattle.hydrostatics.specs.declared.Figures.{Figures}
-use Rattle.hydrostatics.specs.declared.Row.{Row}
 use Rattle.loading.specs.declared.Condition.{Condition}
 use Rattle.loading.specs.declared.Heel.{Heel}
 use Rattle.loading.specs.declared.Heel.the-variants.{Unstable, Upright, Heeled, Beyond}
@@ -39,18 +38,6 @@ pub record Tells {A B : Type 0} (value : A → B) (outcome : Outcome A) (was lef
 -- the hull's particulars, from five numbers in the file's order
 abbrev pub particularsOf : List ℕ → Particulars
 particularsOf five = record { n = getD five 0 0; m = getD five 1 0; s = getD five 2 0; d = getD five 3 0; density = getD five 4 0 }
-
--- a row, from its seven numbers
-abbrev pub rowOf : List ℕ → Row
-rowOf seven = record {
-  draft = getD seven 0 0;
-  displacement = getD seven 1 0;
-  lcb = getD seven 2 0;
-  kb = getD seven 3 0;
-  bm = getD seven 4 0;
-  km = getD seven 5 0;
-  area = getD seven 6 0;
-}
 
 -- the reader's three tables afterwards
 pub record ReadInto (outcome : Outcome Contents) (halfBreadths halfBreadthsLeft : List ℕ) (items itemsLeft tanks tanksLeft : List ℤ) : Type 0 where

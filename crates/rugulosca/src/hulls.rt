@@ -4,7 +4,8 @@ ghost use lib.ListN.{length};
 ghost use Rattle.hydrostatics.specs.Display.{displayOf};
 ghost use Rattle.hydrostatics.specs.Promise.{countOf, tableAfter};
 ghost use Rattle.hydrostatics.specs.Rows.{rowsOf};
-ghost use Rattle.rugulosca.specs.Told.{Tells, particularsOf, rowOf, figureNumbers};
+ghost use Rattle.hydrostatics.specs.Usable.{rowIn};
+ghost use Rattle.rugulosca.specs.Told.{Tells, particularsOf, figureNumbers};
 use crate::ANSWERED;
 use hydrostatics::Display;
 use hydrostatics::Row;
@@ -50,7 +51,7 @@ pub extern "C" fn rugulosca_rows(
 
 // Seven numbers as a row.
 fn row_of(seven: &[u64; 7]) -> Row
-    ensures { λ r. ⌜ r ≡ rowOf (now (seven .entry)) ⌝ }
+    ensures { λ r. ⌜ r ≡ rowIn (now (seven .entry)) 0 ⌝ }
 {
     Row {
         draft: seven[0],
@@ -70,7 +71,7 @@ pub extern "C" fn rugulosca_display(
     figures: &mut [f64; 7],
     place: &mut usize,
 ) -> u64
-    ensures { λ r. ⌜ Tells figureNumbers (displayOf (rowOf (now (row .entry)))) (now (figures .entry)) (now (figures .exit)) (now (place .entry)) (now (place .exit)) r ⌝ }
+    ensures { λ r. ⌜ Tells figureNumbers (displayOf (rowIn (now (row .entry)) 0)) (now (figures .entry)) (now (figures .exit)) (now (place .entry)) (now (place .exit)) r ⌝ }
 {
     match hydrostatics::display_row(row_of(row)) {
         Display::Shown(f) => {
