@@ -13,7 +13,7 @@ use lib.IntN.{pos}
 use lib.ListN.{length}
 use Rattle.arithmetic.proofs.Choice.{chosen}
 use Rattle.ranges.specs.Fields.{particulars, halfBreadth}
-use Rattle.ranges.specs.InRange.{ParticularsInRange}
+use Rattle.ranges.specs.Private.InRange.{ParticularsInRange}
 use Rattle.ranges.specs.Outcome.{refused}
 use Rattle.ranges.specs.Outside.{firstOutside, numbersOf}
 use Rattle.ranges.specs.Refusals.{outOfRange, wrongSize}
@@ -21,8 +21,8 @@ use Rattle.ranges.specs.declared.Particulars.{Particulars}
 use Rattle.ranges.proofs.Facts.{particulars-in-range, half-breadths-in-range}
 use Rattle.hydrostatics.specs.Promise.{paper, countOf, tableAfter, MakesRows}
 use Rattle.hydrostatics.specs.Rows.{rowsUpTo, rowsOf}
-use Rattle.hydrostatics.specs.Table.{FillsRows}
-use Rattle.hydrostatics.specs.Waterplanes.{InRange}
+use Rattle.hydrostatics.specs.Private.Table.{FillsRows}
+use Rattle.hydrostatics.specs.Private.Waterplanes.{InRange}
 use Rattle.hydrostatics.specs.declared.Rows.{Rows}
 
 pub particulars-told : {p : Particulars} {particular : ℕ} → particular ≡ firstOutside particulars (numbersOf p) → 5 ≤ particular → ParticularsInRange p

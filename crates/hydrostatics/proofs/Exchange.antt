@@ -14,7 +14,7 @@ use Rattle.simpson.specs.Multipliers.{multiplier}
 use Rattle.simpson.specs.Curve.{curve}
 use Rattle.simpson.proofs.Curves.{curve-same, curve-times, curve-swap}
 use Rattle.hydrostatics.specs.Hull.{halfBreadth, term, S, Sz, Sx, Q, C}
-use Rattle.hydrostatics.specs.Waterplanes.{X}
+use Rattle.hydrostatics.specs.Private.Waterplanes.{X}
 
 -- a double sum with both multipliers, waterline by waterline
 by-waterlines : (n k : ℕ) (g : ℕ → ℕ → ℕ) → sumTo (n + 1) (λ i. sumTo (k + 1) (λ j. multiplier n i * multiplier k j * g i j)) ≡ curve k (λ j. curve n (λ i. g i j))

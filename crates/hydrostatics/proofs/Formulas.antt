@@ -9,7 +9,7 @@ use native.Mathlib.Nat.{mul-le-mul, mul-zero, div-zero}
 use Rattle.arithmetic.proofs.Ring.{pow2}
 use Rattle.ranges.specs.declared.Particulars.{Particulars}
 use Rattle.hydrostatics.specs.Row.{rowAt}
-use Rattle.hydrostatics.specs.Waterplanes.{SumsOf, SumsWithin}
+use Rattle.hydrostatics.specs.Private.Waterplanes.{SumsOf, SumsWithin}
 use Rattle.hydrostatics.specs.declared.Row.{Row}
 use Rattle.hydrostatics.specs.declared.waterplanes.Sums.{Sums}
 

@@ -9,10 +9,10 @@ use native.Mathlib.Omega.{arith}
 use lib.IntN.{pos}
 use lib.ListN.{getD}
 use Rattle.arithmetic.proofs.Choice.{chosen}
-use Rattle.ranges.specs.Fields.{Range, _to_, least, most}
+use Rattle.ranges.specs.Fields.{Range, _to_, least, most, rowRanges}
 use Rattle.ranges.specs.Outside.{outsideFrom, firstOutside}
 use Rattle.ranges.proofs.Facts.{all-within, within-whole, whole-within}
-use Rattle.hydrostatics.specs.Row.{numbersOf, rowRanges}
+use Rattle.hydrostatics.specs.Row.{numbersOf}
 use Rattle.hydrostatics.specs.declared.Row.{Row}
 
 abbrev pub range : ℕ → Range

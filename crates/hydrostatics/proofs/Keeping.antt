@@ -11,7 +11,7 @@ use lib.ListN.{getD}
 use Rattle.ranges.specs.declared.Particulars.{Particulars}
 use Rattle.simpson.proofs.Curves.{curve-same}
 use Rattle.hydrostatics.specs.Hull.{Q, C}
-use Rattle.hydrostatics.specs.Waterplanes.{X, InRange, Kept, Small, Over, SumsOf, SumsWithin}
+use Rattle.hydrostatics.specs.Private.Waterplanes.{X, InRange, Kept, Small, Over, SumsOf, SumsWithin}
 use Rattle.hydrostatics.specs.declared.waterplanes.Sums.{Sums}
 use Rattle.hydrostatics.proofs.Exchange.{S-is, Sz-is, Sx-is}
 use Rattle.hydrostatics.proofs.Limits.{Q-most, X-most, C-most, S-most, Sz-le, Sx-le}

@@ -17,7 +17,7 @@ use Rattle.simpson.specs.Curve.{curve}
 use Rattle.simpson.proofs.Curves.{curve-times, curve-mono}
 use Rattle.simpson.proofs.Moments.{curve-le}
 use Rattle.hydrostatics.specs.Hull.{halfBreadth, S, Sz, Sx, Q, C}
-use Rattle.hydrostatics.specs.Waterplanes.{X, InRange}
+use Rattle.hydrostatics.specs.Private.Waterplanes.{X, InRange}
 use Rattle.hydrostatics.proofs.Exchange.{Q-is, C-is, S-is, Sz-is, Sx-is}
 
 -- ordinates times their places, of which none is beyond the last

@@ -18,9 +18,10 @@ use Rattle.ranges.specs.Outcome.{Outcome, answered, refused}
 use Rattle.ranges.specs.Refusals.{displacementNotRising, metacentreTooHigh}
 use Rattle.ranges.specs.declared.Particulars.{Particulars}
 use Rattle.hydrostatics.specs.Promise.{paper, countOf, tableAfter}
-use Rattle.hydrostatics.specs.Row.{rowOf, numbersOf, highestMetacentre}
+use Rattle.ranges.specs.Fields.{highestMetacentre}
+use Rattle.hydrostatics.specs.Row.{rowOf, numbersOf}
 use Rattle.hydrostatics.specs.Rows.{displacementBefore, rowsUpTo}
-use Rattle.hydrostatics.specs.Table.{noRow, numbersUpTo, TriedRows, FillsRows}
+use Rattle.hydrostatics.specs.Private.Table.{noRow, numbersUpTo, TriedRows, FillsRows}
 use Rattle.hydrostatics.specs.declared.Rows.the-variants.{Made, Refused}
 use Rattle.hydrostatics.specs.declared.table.Tried.{Tried}
 use Rattle.ranges.specs.declared.Refusal.{Refusal}

@@ -20,9 +20,10 @@ use Rattle.ranges.specs.Refusals.{displacementNotRising, metacentreTooHigh}
 use Rattle.ranges.specs.declared.Particulars.{Particulars}
 use Rattle.ranges.proofs.Outcomes.{refused-not}
 use Rattle.hydrostatics.specs.Promise.{paper, countOf}
-use Rattle.hydrostatics.specs.Row.{rowOf, numbersOf, highestMetacentre}
+use Rattle.ranges.specs.Fields.{highestMetacentre}
+use Rattle.hydrostatics.specs.Row.{rowOf, numbersOf}
 use Rattle.hydrostatics.specs.Rows.{displacementBefore, rowsUpTo}
-use Rattle.hydrostatics.specs.Table.{noRow, numbersUpTo, TriedRows}
+use Rattle.hydrostatics.specs.Private.Table.{noRow, numbersUpTo, TriedRows}
 use Rattle.hydrostatics.specs.declared.Row.{Row}
 use Rattle.hydrostatics.specs.declared.Rows.{Rows}
 use Rattle.hydrostatics.specs.declared.Rows.the-variants.{Made}

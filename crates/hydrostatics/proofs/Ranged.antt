@@ -11,8 +11,9 @@ use native.Mathlib.Nat.{mul-assoc, mul-comm, mul-le-mul, mul-le-mul-left, div-le
 use native.Mathlib.Omega.{arith}
 use Rattle.ranges.specs.declared.Particulars.{Particulars}
 use Rattle.hydrostatics.specs.Hull.{S, Sz, Sx, Q}
-use Rattle.hydrostatics.specs.Row.{rowAt, highestMetacentre}
-use Rattle.hydrostatics.specs.Waterplanes.{InRange}
+use Rattle.ranges.specs.Fields.{highestMetacentre}
+use Rattle.hydrostatics.specs.Row.{rowAt}
+use Rattle.hydrostatics.specs.Private.Waterplanes.{InRange}
 use Rattle.hydrostatics.proofs.InRows.{RowInRange}
 use Rattle.hydrostatics.proofs.Limits.{Q-most, S-most, Sz-le, Sx-le}
 use Rattle.hydrostatics.proofs.Metacentre.{bm-le-km}

@@ -11,7 +11,7 @@ use native.Mathlib.Omega.{arith}
 use lib.ListN.{getD, drop}
 use lib.Seq.{drop-at, getD-drop}
 use Rattle.hydrostatics.specs.Row.{numbersOf}
-use Rattle.hydrostatics.specs.Table.{numbersUpTo}
+use Rattle.hydrostatics.specs.Private.Table.{numbersUpTo}
 use Rattle.hydrostatics.specs.Usable.{seven, rowIn}
 use Rattle.hydrostatics.specs.declared.Row.{Row}
 use Rattle.hydrostatics.proofs.Writing.{numbers-length}

@@ -15,7 +15,8 @@ use Rattle.ranges.specs.Outside.{firstOutside}
 use Rattle.ranges.specs.Refusals.{outOfRange}
 use Rattle.ranges.proofs.Outside.{outside-le}
 use Rattle.hydrostatics.specs.Display.{figuresOf, displayOf}
-use Rattle.hydrostatics.specs.Row.{numbersOf, rowRanges}
+use Rattle.ranges.specs.Fields.{rowRanges}
+use Rattle.hydrostatics.specs.Row.{numbersOf}
 use Rattle.hydrostatics.specs.declared.Row.{Row}
 
 pub thousand : ofBits binary64 0x408f_4000_0000_0000 ≡ ofInt binary64 (pos 1_000)

@@ -20,7 +20,7 @@ use Rattle.simpson.specs.Multipliers.{multiplier}
 use Rattle.simpson.specs.Curve.{curve}
 use Rattle.simpson.proofs.Moments.{curve-le}
 use Rattle.hydrostatics.specs.Hull.{halfBreadth}
-use Rattle.hydrostatics.specs.Waterplanes.{InRange, Small}
+use Rattle.hydrostatics.specs.Private.Waterplanes.{InRange, Small}
 use Rattle.hydrostatics.proofs.Exchange.{Q-is, X-is, C-is}
 use Rattle.hydrostatics.proofs.Limits.{Q-most, X-most, C-most}
 

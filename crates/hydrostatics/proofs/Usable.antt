@@ -26,7 +26,7 @@ use Rattle.hydrostatics.specs.Promise.{tableAfter, MakesRows}
 use Rattle.hydrostatics.specs.Row.{rowAt, rowOf}
 use Rattle.hydrostatics.specs.Rows.{displacementBefore, rowsOf}
 use Rattle.hydrostatics.specs.Usable.{inRange, spaced, rises, metacentreFits, usableRow, usableUpTo}
-use Rattle.hydrostatics.specs.Waterplanes.{InRange}
+use Rattle.hydrostatics.specs.Private.Waterplanes.{InRange}
 use Rattle.hydrostatics.specs.declared.Rows.the-variants.{Made}
 use Rattle.hydrostatics.proofs.Answers.{particulars-told, hull-told}
 use Rattle.hydrostatics.proofs.InRows.{none-outside}

@@ -12,7 +12,7 @@ use native.Mathlib.Omega.{arith}
 use lib.ListN.{length, take, drop, length-append, length-drop}
 use Rattle.arithmetic.proofs.Parts.{part-filled}
 use Rattle.hydrostatics.specs.Row.{numbersOf}
-use Rattle.hydrostatics.specs.Table.{numbersUpTo}
+use Rattle.hydrostatics.specs.Private.Table.{numbersUpTo}
 use Rattle.hydrostatics.specs.declared.Row.{Row}
 
 pub numbers-more : (row : ℕ → Row) (r : ℕ) → numbersUpTo row (r + 1) ≡ numbersUpTo row r ++ numbersOf (row r)

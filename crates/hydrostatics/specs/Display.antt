@@ -10,7 +10,8 @@ use Rattle.arithmetic.specs.Choice.{if_then_else_}
 use Rattle.ranges.specs.Outcome.{Outcome, answered, refused}
 use Rattle.ranges.specs.Outside.{firstOutside}
 use Rattle.ranges.specs.Refusals.{outOfRange}
-use Rattle.hydrostatics.specs.Row.{numbersOf, rowRanges}
+use Rattle.ranges.specs.Fields.{rowRanges}
+use Rattle.hydrostatics.specs.Row.{numbersOf}
 use Rattle.hydrostatics.specs.declared.Display.{Display}
 use Rattle.hydrostatics.specs.declared.Display.the-variants.{Shown, Refused}
 use Rattle.hydrostatics.specs.declared.Figures.{Figures}

@@ -5,6 +5,4 @@ pub mod Rows
 pub mod Usable
 pub mod Display
 pub mod Promise
--- Words of private contracts: no public promise is made in them.
-pub mod Waterplanes
-pub mod Table
+pub mod Private

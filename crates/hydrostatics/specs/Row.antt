@@ -1,7 +1,6 @@
--- The seven numbers of a row, "each rounded down once", and their ranges.
+-- The seven numbers of a row, "each rounded down once". Their ranges: `Fields` of ranges.
 use Prim.Native.Nat.{ℕ, _+_, _*_, _/_, _^_}
 use mathlib.Core.List.{List, [], _∷_}
-use Rattle.ranges.specs.Fields.{Range, _to_}
 use Rattle.ranges.specs.declared.Particulars.{Particulars}
 use Rattle.hydrostatics.specs.Hull.{S, Sz, Sx, Q, C}
 use Rattle.hydrostatics.specs.declared.Row.{Row}
@@ -27,11 +26,3 @@ rowOf table p r = rowAt table p (waterlineOf r)
 -- the seven, in the paper's order
 abbrev pub numbersOf : Row → List ℕ
 numbersOf row = row .draft ∷ row .displacement ∷ row .lcb ∷ row .kb ∷ row .bm ∷ row .km ∷ row .area ∷ []
-
--- "Ranges of a row": draft, displacement, LCB, KB, BM, KM, area
-abbrev pub highestMetacentre : ℕ
-highestMetacentre = 100_000
-
-abbrev pub rowRanges : List Range
-rowRanges =
-    20 to 10_000 ∷ 1 to 17_600_000 ∷ 0 to 100_000 ∷ 0 to 10_000 ∷ 0 to 100_000 ∷ 0 to highestMetacentre ∷ 0 to 1_600_000_000 ∷ []

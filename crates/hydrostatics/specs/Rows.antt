@@ -6,13 +6,13 @@ use lib.Dec.{leb, ltb, eqb}
 use lib.IntN.{pos}
 use lib.ListN.{length}
 use Rattle.arithmetic.specs.Choice.{if_then_else_}
-use Rattle.ranges.specs.Fields.{particulars, halfBreadth}
+use Rattle.ranges.specs.Fields.{particulars, halfBreadth, highestMetacentre}
 use Rattle.ranges.specs.Outcome.{Outcome, answered, refused, andThen}
 use Rattle.ranges.specs.Outside.{firstOutside, numbersOf}
 use Rattle.ranges.specs.Refusals.{outOfRange, wrongSize, displacementNotRising, metacentreTooHigh, placeOfHalfBreadths, halfBreadthTable, rowTable}
 use Rattle.ranges.specs.Sizes.{pointsOf}
 use Rattle.ranges.specs.declared.Particulars.{Particulars}
-use Rattle.hydrostatics.specs.Row.{rowOf, highestMetacentre}
+use Rattle.hydrostatics.specs.Row.{rowOf}
 use Rattle.hydrostatics.specs.Row as Row
 
 module _ (table : List ℕ) (p : Particulars) where

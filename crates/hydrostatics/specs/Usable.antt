@@ -7,11 +7,11 @@ use lib.Dec.{ltb, eqb}
 use lib.IntN.{pos}
 use lib.ListN.{length, getD, take, drop}
 use Rattle.arithmetic.specs.Choice.{if_then_else_}
-use Rattle.ranges.specs.Fields.{_to_, within}
+use Rattle.ranges.specs.Fields.{_to_, within, rowRanges}
 use Rattle.ranges.specs.Outcome.{Outcome, answered, refused, andThen}
 use Rattle.ranges.specs.Outside.{firstOutside}
 use Rattle.ranges.specs.Refusals.{rowsNotUsable}
-use Rattle.hydrostatics.specs.Row.{rowRanges, waterlineOf}
+use Rattle.hydrostatics.specs.Row.{waterlineOf}
 use Rattle.hydrostatics.specs.declared.Row.{Row}
 
 module _ (rows : List ℕ) where

@@ -4,7 +4,7 @@ ghost use mathlib.Core.Path.{_≡_};
 ghost use Prim.Native.Nat.{_+_, _≤_};
 ghost use Rattle.simpson.specs.Multipliers.{multiplier};
 ghost use Rattle.hydrostatics.specs.Hull.{halfBreadth, C};
-ghost use Rattle.hydrostatics.specs.Waterplanes.{Filled, InRange, Given, WaterlineOf, Kept, Small, Over};
+ghost use Rattle.hydrostatics.specs.Private.Waterplanes.{Filled, InRange, Given, WaterlineOf, Kept, Small, Over};
 use ranges::Particulars;
 
 // The sums over one waterline: of u·y, and of u·y times the station's number.

@@ -16,7 +16,7 @@ use lib.IntN.{ℤ, pos, negsuc, negℤ, natAbs, _+ℤ_, _-ℤ_, _*ℤ_}
 use lib.Signed.{_≤ℤ_, _<ℤ_}
 use Rattle.arithmetic.specs.Signed.{nearest}
 use Rattle.arithmetic.proofs.Crossing.{mag-le, nearest-of-small}
-use Rattle.loading.specs.Steady.{aboveZero}
+use Rattle.loading.specs.Private.Steady.{aboveZero}
 
 -- z is a less b
 data Less (a b : ℕ) : ℤ → Type 0 where

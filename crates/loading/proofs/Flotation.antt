@@ -12,10 +12,10 @@ use native.Mathlib.Nat.{mul-le-mul-right, mul-add, div-one, zero-mul, zero-add}
 use native.Mathlib.Decide.{decLt}
 use native.Mathlib.Omega.{arith}
 use Rattle.arithmetic.proofs.Rounding.{down-of, down-mono, down-whole}
-use Rattle.hydrostatics.specs.Row.{highestMetacentre}
+use Rattle.ranges.specs.Fields.{highestMetacentre}
 use Rattle.hydrostatics.specs.Usable.{rowIn, spacing}
 use Rattle.hydrostatics.specs.declared.Row.{Row}
-use Rattle.loading.specs.Afloat.{RowsUsable, RowBelow, OnLine, Floats}
+use Rattle.loading.specs.Private.Afloat.{RowsUsable, RowBelow, OnLine, Floats}
 use Rattle.loading.specs.Paper.{paperRules, onLine}
 use Rattle.loading.specs.Table.{Table, Within, Place, on, between, tableOf, lastRow, placeOf, draftAt, line}
 use Rattle.loading.specs.declared.floating.Floating.{Floating}

@@ -17,7 +17,7 @@ use Rattle.arithmetic.specs.Signed.{isNegative}
 use Rattle.arithmetic.proofs.Choice.{chosen}
 use Rattle.arithmetic.proofs.Tests.{never}
 use Rattle.loading.specs.Stability.{heelLimit, leastGM, tangent, heelOf, stands}
-use Rattle.loading.specs.Steady.{aboveZero, passesWith}
+use Rattle.loading.specs.Private.Steady.{aboveZero, passesWith}
 use Rattle.loading.specs.declared.Heel.{Heel}
 use Rattle.loading.specs.declared.Heel.the-variants.{Unstable, Upright, Heeled, Beyond}
 

@@ -9,7 +9,7 @@ use native.Mathlib.Omega.{arith}
 use lib.IntN.{ℤ}
 use Rattle.arithmetic.specs.Rounding.{roundedUp}
 use Rattle.loading.specs.Stability.{heelOf, passes}
-use Rattle.loading.specs.Steady.{gmOf, transverseOf, passesWith, conditionWith, Steady, Moderate}
+use Rattle.loading.specs.Private.Steady.{gmOf, transverseOf, passesWith, conditionWith, Steady, Moderate}
 use Rattle.loading.specs.declared.Aboard.{Aboard}
 use Rattle.loading.specs.declared.Condition.{Condition}
 use Rattle.loading.specs.declared.Heel.{Heel}

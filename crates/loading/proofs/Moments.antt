@@ -13,13 +13,13 @@ use Rattle.arithmetic.proofs.Integer.{solveℤ}
 use Rattle.arithmetic.proofs.Polynomial.{_:+_, :-_}
 use Rattle.ranges.specs.Sides.{sidesOf}
 use Rattle.ranges.proofs.Facts.{sides-are}
-use Rattle.loading.specs.Aboard.{nothing, _with_, weightAt, ofItem, ofTank, altogether, aboardOf}
+use Rattle.loading.specs.Private.Aboard.{nothing, _with_, weightAt, ofItem, ofTank, altogether, aboardOf}
 use Rattle.loading.specs.Condition.{conditionAt}
 use Rattle.loading.specs.Load.{Load, weight, longitudinalMoment, verticalMoment, transverseMoment}
 use Rattle.loading.specs.Paper.{paperRules, rectangle}
 use Rattle.loading.specs.Rules.{surfaceOf}
 use Rattle.loading.specs.Stability.{freeSurface, draft, km}
-use Rattle.loading.specs.Steady.{transverseOf, conditionWith}
+use Rattle.loading.specs.Private.Steady.{transverseOf, conditionWith}
 use Rattle.loading.specs.Table.{Table}
 use Rattle.loading.specs.Total.{total, totalℤ}
 use Rattle.loading.specs.declared.Aboard.{Aboard}

@@ -11,7 +11,7 @@ use native.Mathlib.Omega.{arith}
 use lib.IntN.{ℤ, pos, negsuc, natAbs}
 use Rattle.ranges.specs.Fields.{most, rangeOf}
 use Rattle.ranges.specs.Sides.{sidesOf}
-use Rattle.loading.specs.Aboard.{_with_, weightAt, Stowed, Reach}
+use Rattle.loading.specs.Private.Aboard.{_with_, weightAt, Stowed, Reach}
 use Rattle.loading.specs.declared.Aboard.{Aboard}
 
 pub sides-together : (y : ℤ) → sidesOf y .port + sidesOf y .starboard ≡ natAbs y

@@ -13,7 +13,7 @@ use Rattle.arithmetic.specs.Choice.{if_then_else_}
 use Rattle.arithmetic.specs.Rounding.{roundedUp}
 use Rattle.arithmetic.proofs.Choice.{chosen, if-either}
 use Rattle.arithmetic.proofs.Rounding.{up-of, up-zero, up-least}
-use Rattle.loading.specs.Aboard.{RoomOf}
+use Rattle.loading.specs.Private.Aboard.{RoomOf}
 use Rattle.loading.specs.Load.{Tank}
 use Rattle.loading.specs.Paper.{slack, rectangleParts, rectangle}
 use Rattle.loading.specs.Rules.{surfaceOf}

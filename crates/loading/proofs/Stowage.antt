@@ -20,7 +20,7 @@ use Rattle.ranges.specs.Outcome.{answered, refused, andThen}
 use Rattle.ranges.specs.Outside.{firstOutside}
 use Rattle.ranges.specs.Refusals.{outOfRange, contentsAboveCapacity}
 use Rattle.ranges.proofs.Facts.{within-size, all-within}
-use Rattle.loading.specs.Aboard.{numberAt, sizeAt, itemAt, tankAt, Stowed, StowedItem, StowedIn, ItemsFit, RoomOf, TankFits, altogether, ofTank, tanksAboard, TrialReach, TanksTried}
+use Rattle.loading.specs.Private.Aboard.{numberAt, sizeAt, itemAt, tankAt, Stowed, StowedItem, StowedIn, ItemsFit, RoomOf, TankFits, altogether, ofTank, tanksAboard, TrialReach, TanksTried}
 use Rattle.loading.specs.Condition.{tanksFrom}
 use Rattle.loading.specs.Records.{tanksOf}
 use Rattle.loading.specs.declared.Aboard.{Aboard}

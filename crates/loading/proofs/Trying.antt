@@ -18,16 +18,16 @@ use lib.IntN.{pos}
 use lib.ListN.{length}
 use Rattle.arithmetic.specs.Choice.{if_then_else_}
 use Rattle.arithmetic.proofs.Choice.{chosen}
-use Rattle.hydrostatics.specs.Row.{numbersOf, rowRanges}
+use Rattle.hydrostatics.specs.Row.{numbersOf}
 use Rattle.hydrostatics.specs.Usable.{rowIn, inRange, spaced, rises, metacentreFits, usableRow, usableUpTo}
 use Rattle.hydrostatics.specs.declared.Row.{Row}
-use Rattle.ranges.specs.Fields.{_to_, within}
+use Rattle.ranges.specs.Fields.{_to_, within, rowRanges}
 use Rattle.ranges.specs.Outcome.{answered, refused, andThen}
 use Rattle.ranges.specs.Outside.{firstOutside}
 use Rattle.ranges.specs.Refusals.{rowsNotUsable}
 use Rattle.ranges.proofs.Facts.{whole-within}
 use Rattle.hydrostatics.proofs.InRows.{row-in-range}
-use Rattle.loading.specs.Afloat.{RowsTried}
+use Rattle.loading.specs.Private.Afloat.{RowsTried}
 use Rattle.loading.proofs.Usability.{seven-are}
 
 -- ---- the distance between waterlines, where `first` is row 0's draft

@@ -20,16 +20,16 @@ use lib.IntN.{pos}
 use lib.ListN.{length}
 use Rattle.arithmetic.specs.Choice.{if_then_else_}
 use Rattle.arithmetic.proofs.Tests.{both}
-use Rattle.hydrostatics.specs.Row.{numbersOf, rowRanges, highestMetacentre, waterlineOf}
+use Rattle.hydrostatics.specs.Row.{numbersOf, waterlineOf}
 use Rattle.hydrostatics.specs.Usable.{seven, rowIn, spacing, inRange, spaced, rises, metacentreFits, usableRow, usableUpTo}
-use Rattle.ranges.specs.Fields.{_to_, within}
+use Rattle.ranges.specs.Fields.{_to_, within, rowRanges, highestMetacentre}
 use Rattle.ranges.specs.Outcome.{Outcome, answered, refused, andThen}
 use Rattle.ranges.specs.Outside.{firstOutside}
 use Rattle.ranges.specs.Refusals.{rowsNotUsable}
 use Rattle.ranges.proofs.Facts.{within-whole}
 use Rattle.ranges.proofs.Outcomes.{was-passed, answered-then}
 use Rattle.hydrostatics.proofs.InRows.{RowInRange, row-in-range}
-use Rattle.loading.specs.Afloat.{RowsWhole, RowsUsable}
+use Rattle.loading.specs.Private.Afloat.{RowsWhole, RowsUsable}
 use Rattle.loading.specs.Straight.{Waterlines, last, next, Usable}
 use Rattle.loading.specs.Table.{tableOf, rowsFrom}
 use Rattle.loading.proofs.Walks.{take-seven}

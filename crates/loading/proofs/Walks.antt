@@ -12,7 +12,7 @@ use native.Mathlib.Omega.{arith}
 use lib.IntN.{ℤ, pos}
 use lib.ListN.{length, take, drop, getD, drop-of-length-le}
 use Rattle.arithmetic.proofs.Parts.{drop-step}
-use Rattle.loading.specs.Aboard.{nothing, _with_, altogether, itemAt, tankAt, Reach}
+use Rattle.loading.specs.Private.Aboard.{nothing, _with_, altogether, itemAt, tankAt, Reach}
 use Rattle.loading.specs.Records.{itemsOf, tanksOf}
 use Rattle.loading.specs.declared.Aboard.{Aboard}
 use Rattle.loading.proofs.Reaches.{reach-with}

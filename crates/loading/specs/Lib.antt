@@ -11,7 +11,4 @@ pub mod Paper
 pub mod Demand
 pub mod Condition
 pub mod Promise
--- Words of private contracts: no public promise is made in them.
-pub mod Aboard
-pub mod Afloat
-pub mod Steady
+pub mod Private

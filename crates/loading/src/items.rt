@@ -2,7 +2,7 @@
 ghost use mathlib.Core.Path.{_≡_};
 ghost use Prim.Native.Nat.{_*_};
 ghost use Rattle.ranges.specs.Fields.{most, rangeOf};
-ghost use Rattle.loading.specs.Aboard.{Brought, ItemsFit, altogether, ofItem};
+ghost use Rattle.loading.specs.Private.Aboard.{Brought, ItemsFit, altogether, ofItem};
 ghost use Rattle.loading.specs.Records.{itemsOf};
 use crate::Aboard;
 use crate::weights;

@@ -3,7 +3,7 @@ ghost use mathlib.Core.Path.{_≡_};
 ghost use Prim.Native.Nat.{_^_, _<_, _≤_};
 ghost use lib.IntN.{pos, _-ℤ_};
 ghost use Rattle.loading.specs.Stability.{heelOf};
-ghost use Rattle.loading.specs.Steady.{aboveZero, gmOf, passesWith, Moderate};
+ghost use Rattle.loading.specs.Private.Steady.{aboveZero, gmOf, passesWith, Moderate};
 use crate::Condition;
 use crate::Heel;
 

@@ -3,7 +3,7 @@ ghost use mathlib.Core.Path.{_≡_};
 ghost use Prim.Native.Nat.{_+_, _*_, _^_, _≤_};
 ghost use lib.ListN.{length};
 ghost use Rattle.arithmetic.specs.Rounding.{roundedUp};
-ghost use Rattle.loading.specs.Aboard.{RoomOf, TankFits, TanksWhole, TanksTried, tankAt, ofTank};
+ghost use Rattle.loading.specs.Private.Aboard.{RoomOf, TankFits, TanksWhole, TanksTried, tankAt, ofTank};
 ghost use Rattle.loading.specs.Paper.{rectangle};
 ghost use Rattle.loading.specs.Rules.{surfaceOf};
 use crate::Aboard;

@@ -5,7 +5,7 @@ ghost use Prim.Native.Nat.{_+_, _*_, _≤_};
 ghost use lib.Dec.{eqb};
 ghost use lib.ListN.{length};
 ghost use Rattle.hydrostatics.specs.Usable.{spaced, rises, usableRow};
-ghost use Rattle.loading.specs.Afloat.{RowsWhole, RowsTried};
+ghost use Rattle.loading.specs.Private.Afloat.{RowsWhole, RowsTried};
 use crate::rows;
 
 // The distance between waterlines, mm.

@@ -1,6 +1,6 @@
 // What a weight brings aboard, and what two bring together.
 ghost use mathlib.Core.Path.{_≡_};
-ghost use Rattle.loading.specs.Aboard.{nothing, Stowed, StowedIn, Bearable, weightAt, weightIn, _with_};
+ghost use Rattle.loading.specs.Private.Aboard.{nothing, Stowed, StowedIn, Bearable, weightAt, weightIn, _with_};
 use crate::Aboard;
 
 // Nothing aboard.

@@ -21,7 +21,7 @@ use Rattle.arithmetic.specs.Choice.{if_then_else_}
 use Rattle.arithmetic.proofs.Choice.{chosen}
 use Rattle.arithmetic.proofs.Crossing.{back, back-is, mag-le}
 use Rattle.numerals.specs.Number.{minus, isWhole, value, allDigits, numberOf}
-use Rattle.numerals.specs.Sign.{withSign, saidBy}
+use Rattle.numerals.specs.Private.Sign.{withSign, saidBy}
 use Rattle.numerals.specs.declared.reading.Number.{Number}
 use Rattle.numerals.specs.declared.reading.Number.the-variants.{Is, Not}
 use Rattle.arithmetic.proofs.Tests.{both}

@@ -22,7 +22,7 @@ use Rattle.io.specs.Counts.{Counts}
 use Rattle.io.specs.Digits.{digits, Fewest}
 use Rattle.numerals.specs.Number.{minus}
 use Rattle.numerals.specs.Printed.{decimal, printed, Prints}
-use Rattle.numerals.specs.Sign.{withSign}
+use Rattle.numerals.specs.Private.Sign.{withSign}
 use Rattle.numerals.proofs.Decimal.{decimal-is-digits, some-of-decimal}
 
 pub prints-unique : {v : ℤ} {room after after' : List ℕ} {r r' : ℕ} → Prints v room after r → Prints v room after' r' → (after ≡ after') × (r ≡ r')

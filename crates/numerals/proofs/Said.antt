@@ -21,7 +21,7 @@ use Rattle.arithmetic.proofs.Crossing.{back, mag-le, nearest-back, nearest-of-s
 use Rattle.arithmetic.proofs.Parts.{drop-step}
 use Rattle.numerals.specs.Number.{minus, isWhole, value, numberOf}
 use Rattle.numerals.specs.Front.{front, endsAt, numeralAt}
-use Rattle.numerals.specs.Sign.{withSign, saidBy, digitsFrom, saidFrom, DigitsFrom}
+use Rattle.numerals.specs.Private.Sign.{withSign, saidBy, digitsFrom, saidFrom, DigitsFrom}
 use Rattle.numerals.specs.declared.reading.Digits.{Digits}
 use Rattle.numerals.specs.declared.reading.Number.the-variants.{Is, Not}
 use Rattle.numerals.specs.declared.reading.Numeral.the-variants.{Ends, None}

@@ -17,7 +17,7 @@ use lib.ListN.{length, drop, getD, length-drop, drop-of-length-le}
 use Rattle.arithmetic.proofs.Parts.{drop-step}
 use Rattle.numerals.specs.Number.{zeroDigit, isDigit, valueFrom, value}
 use Rattle.numerals.specs.Front.{digitsOf}
-use Rattle.numerals.specs.Sign.{digitsFrom, DigitsFrom}
+use Rattle.numerals.specs.Private.Sign.{digitsFrom, DigitsFrom}
 use Rattle.arithmetic.proofs.Tests.{less-or-not}
 use Rattle.numerals.proofs.Wholes.{digit-range}
 use Rattle.numerals.proofs.Fronts.{ended, other, digits-more, digits-none, digits-at-zero, length-of-digits}

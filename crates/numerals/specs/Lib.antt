@@ -2,5 +2,4 @@
 pub mod Number
 pub mod Front
 pub mod Printed
--- Words of private contracts: no public promise is made in them.
-pub mod Sign
+pub mod Private

@@ -4,7 +4,7 @@ ghost use mathlib.Core.Path.{_≡_};
 ghost use Prim.Native.Nat.{_<_};
 ghost use lib.IntN.{pos};
 ghost use Rattle.numerals.specs.Printed.{Prints};
-ghost use Rattle.numerals.specs.Sign.{withSign};
+ghost use Rattle.numerals.specs.Private.Sign.{withSign};
 
 // The largest u64 has twenty digits.
 const MOST_DIGITS: usize = 20;

@@ -6,7 +6,7 @@ ghost use Prim.Native.Nat.{_≤_, min};
 ghost use lib.ListN.{length};
 ghost use Rattle.numerals.specs.Number.{isDigit, allDigits, isWhole, numberOf};
 ghost use Rattle.numerals.specs.Front.{numeralAt};
-ghost use Rattle.numerals.specs.Sign.{saidFrom, DigitsFrom};
+ghost use Rattle.numerals.specs.Private.Sign.{saidFrom, DigitsFrom};
 
 // What a token says.
 pub enum Number {

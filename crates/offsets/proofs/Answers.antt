@@ -21,7 +21,7 @@ use Rattle.ranges.specs.Sizes.{longestFile, roomForHalfBreadths, roomForItems, 
 use Rattle.ranges.specs.declared.Refusal.{Refusal}
 use Rattle.offsets.specs.File.{Contents, file}
 use Rattle.offsets.specs.Reader.{readerOf, particularsOf, summaryOf, summarised, paper, filled, Reads}
-use Rattle.offsets.specs.Steps.{Sized, Rooms, Parses, onParsed}
+use Rattle.offsets.specs.Private.Steps.{Sized, Rooms, Parses, onParsed}
 use Rattle.offsets.specs.Tokens.{tokens}
 use Rattle.offsets.specs.declared.Read.{Read}
 use Rattle.offsets.specs.declared.Read.the-variants.{Sheet, Refused}

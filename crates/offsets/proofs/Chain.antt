@@ -21,7 +21,7 @@ use Rattle.ranges.proofs.Facts.{within-whole, within-positive}
 use Rattle.ranges.proofs.Outcomes.{refused-not, then-assoc}
 use Rattle.offsets.specs.File.{Contents, records, points, section, complete, file}
 use Rattle.offsets.specs.Reading.{one, count, numbers}
-use Rattle.offsets.specs.Steps.{tokensAt, onStep, onNumbers, onEnd, countOf, rangesFrom, pointsIn, Counts, ReadsAfter, Finishes, onParsed, Fits, Parses}
+use Rattle.offsets.specs.Private.Steps.{tokensAt, onStep, onNumbers, onEnd, countOf, rangesFrom, pointsIn, Counts, ReadsAfter, Finishes, onParsed, Fits, Parses}
 use Rattle.offsets.specs.Tokens.{Token, tokens, tokensFrom}
 use Rattle.offsets.specs.declared.reading.Step.{Step}
 use Rattle.offsets.specs.declared.reading.Step.the-variants as S

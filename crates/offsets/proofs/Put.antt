@@ -22,12 +22,12 @@ use Rattle.arithmetic.proofs.Crossing.{back, nearest-back, nearest-of-small}
 use Rattle.arithmetic.proofs.Parts.{drop-step, take-step, part-end, part-filled, store-next}
 use Rattle.arithmetic.proofs.Room.{laid-fits}
 use Rattle.numerals.specs.Printed.{printed, Prints}
-use Rattle.ranges.specs.InRange.{ParticularsInRange}
+use Rattle.ranges.specs.Private.InRange.{ParticularsInRange}
 use Rattle.ranges.specs.Outside.{numbersOf}
 use Rattle.ranges.specs.declared.Particulars.{Particulars}
 use Rattle.offsets.specs.Tokens.{space, lineFeed}
 use Rattle.offsets.specs.Written.{line, lines, counted, sectionText}
-use Rattle.offsets.specs.Putting.{RoomFor, Puts}
+use Rattle.offsets.specs.Private.Putting.{RoomFor, Puts}
 
 pub sets-append : (a b room : List ℕ) (at : ℕ) → sets (sets room at a) (at + length a) b ≡ sets room at (a ++ b)
 sets-append [] b room at = rw add-zero

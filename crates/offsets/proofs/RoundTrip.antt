@@ -21,7 +21,7 @@ use Rattle.ranges.specs.Sizes.{longestFile, wholeRecords, mostItems, mostTanks}
 use Rattle.ranges.specs.declared.Particulars.{Particulars}
 use Rattle.ranges.proofs.Facts.{records-are}
 use Rattle.offsets.specs.File.{Contents, records, points, file}
-use Rattle.offsets.specs.Putting.{Passes}
+use Rattle.offsets.specs.Private.Putting.{Passes}
 use Rattle.offsets.specs.Reader.{particularsOf, summaryOf}
 use Rattle.offsets.specs.Tokens.{tokens}
 use Rattle.offsets.specs.Written.{lines, counted, sectionText, textOf}

@@ -17,7 +17,7 @@ use Rattle.ranges.specs.Outcome.{Outcome, answered, refused, andThen}
 use Rattle.ranges.specs.Refusals.{outOfRange}
 use Rattle.ranges.specs.declared.Refusal.{Refusal}
 use Rattle.offsets.specs.Reading.{one, numbers}
-use Rattle.offsets.specs.Steps.{tokensAt, onOne, onNumbers, rangesFrom, ReadsFrom}
+use Rattle.offsets.specs.Private.Steps.{tokensAt, onOne, onNumbers, rangesFrom, ReadsFrom}
 use Rattle.offsets.specs.Tokens.{Token}
 use Rattle.offsets.specs.declared.reading.One.the-variants as O
 use Rattle.offsets.specs.declared.reading.Step.the-variants as S

@@ -14,7 +14,7 @@ use Rattle.ranges.specs.Refusals.{tokenAfterEnd}
 use Rattle.ranges.specs.declared.Refusal.{Refusal}
 use Rattle.offsets.specs.File.{Contents, complete}
 use Rattle.offsets.specs.Reading.{count, numbers}
-use Rattle.offsets.specs.Steps.{tokensAt, Begins, onStep, onNumbers, onEnd, countOf, rangesFrom, Counts, ReadsFrom, ReadsAfter, Finishes}
+use Rattle.offsets.specs.Private.Steps.{tokensAt, Begins, onStep, onNumbers, onEnd, countOf, rangesFrom, Counts, ReadsFrom, ReadsAfter, Finishes}
 use Rattle.offsets.specs.Tokens.{Token, number, noNumber}
 use Rattle.offsets.specs.declared.reading.Step.{Step}
 use Rattle.offsets.specs.declared.reading.Step.the-variants as S

@@ -16,7 +16,7 @@ use Rattle.ranges.specs.Fields.{Range, _to_, within}
 use Rattle.ranges.specs.Outcome.{Outcome, answered, refused, andThen}
 use Rattle.ranges.specs.Refusals.{notANumber, countNotAllowed, endsTooEarly}
 use Rattle.offsets.specs.Reading.{one, count}
-use Rattle.offsets.specs.Steps.{Begins}
+use Rattle.offsets.specs.Private.Steps.{Begins}
 use Rattle.offsets.specs.Tokens.{Token, number, noNumber}
 
 pub none-below : (a b : ℕ) (v : ℤ) → isNegative v ≡ true → within (a to b) v ≡ false

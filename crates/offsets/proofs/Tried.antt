@@ -21,7 +21,7 @@ use Rattle.ranges.specs.Refusals.{outOfRange, wrongSize, roomTooShort, placeOfH
 use Rattle.ranges.specs.Sizes.{pointsOf, wholeRecords, mostItems, mostTanks}
 use Rattle.ranges.specs.declared.Particulars.{Particulars}
 use Rattle.ranges.proofs.Outcomes.{not-refused}
-use Rattle.offsets.specs.Putting.{RightSizes, Passes}
+use Rattle.offsets.specs.Private.Putting.{RightSizes, Passes}
 use Rattle.offsets.specs.Written.{textOf}
 use Rattle.offsets.specs.Writer.{writerOf}
 

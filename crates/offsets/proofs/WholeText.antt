@@ -10,13 +10,13 @@ use native.Mathlib.Omega.{arith}
 use lib.IntN.{ℤ}
 use lib.ListN.{length, take, drop}
 use lib.Seq.{sets-eq, take-at, take-length}
-use Rattle.ranges.specs.InRange.{ParticularsInRange}
+use Rattle.ranges.specs.Private.InRange.{ParticularsInRange}
 use Rattle.ranges.specs.Outcome.{refused}
 use Rattle.ranges.specs.Refusals.{roomTooShort}
 use Rattle.ranges.specs.Sizes.{longestFile}
 use Rattle.ranges.specs.declared.Particulars.{Particulars}
 use Rattle.ranges.proofs.Facts.{particulars-in-range, half-breadths-in-range}
-use Rattle.offsets.specs.Putting.{Passes, RoomFor, RoomForStations, RoomForSection, Puts, hullText, stationsText}
+use Rattle.offsets.specs.Private.Putting.{Passes, RoomFor, RoomForStations, RoomForSection, Puts, hullText, stationsText}
 use Rattle.offsets.specs.Writer.{writerOf, lengthOf, roomAfter, Writes}
 use Rattle.offsets.specs.Written.{sectionText, textOf}
 use Rattle.offsets.specs.declared.Written.{Written}

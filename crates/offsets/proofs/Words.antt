@@ -28,7 +28,7 @@ use Rattle.numerals.specs.declared.reading.Numeral.the-variants.{Ends, None}
 use Rattle.numerals.proofs.Fronts as Fronts
 use Rattle.numerals.proofs.Wholes.{digit-range}
 use Rattle.offsets.specs.Tokens.{Token, number, noNumber, isSeparator, said, closed, tokensFrom}
-use Rattle.offsets.specs.Steps.{tokensAt, endsHere, Begins, FirstByte}
+use Rattle.offsets.specs.Private.Steps.{tokensAt, endsHere, Begins, FirstByte}
 
 -- ---- separators, and the end
 module _ (text : List ℕ) (i : ℕ) where

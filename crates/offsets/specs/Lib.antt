@@ -5,6 +5,4 @@ pub mod File
 pub mod Reader
 pub mod Written
 pub mod Writer
--- Words of private contracts: no public promise is made in them.
-pub mod Steps
-pub mod Putting
+pub mod Private

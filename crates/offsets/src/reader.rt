@@ -5,7 +5,7 @@ ghost use Prim.Native.Nat.{_≤_};
 ghost use lib.IntN.{natAbs};
 ghost use lib.ListN.{length, take, drop};
 ghost use Rattle.offsets.specs.Reader.{Reads, particularsOf};
-ghost use Rattle.offsets.specs.Steps.{Parses, Rooms, Sized, pointsIn};
+ghost use Rattle.offsets.specs.Private.Steps.{Parses, Rooms, Sized, pointsIn};
 use crate::Read;
 use crate::Summary;
 use crate::reading::Step;

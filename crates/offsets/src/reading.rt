@@ -5,7 +5,7 @@ ghost use lib.ListN.{length};
 ghost use Rattle.ranges.specs.Refusals.{outOfRange};
 ghost use Rattle.offsets.specs.Reading.{one, count};
 ghost use Rattle.ranges.specs.Fields.{_to_, within, rangeOf};
-ghost use Rattle.offsets.specs.Steps.{tokensAt, onOne, onStep, countOf, Counts, ReadsFrom, ReadsAfter, Finishes};
+ghost use Rattle.offsets.specs.Private.Steps.{tokensAt, onOne, onStep, countOf, Counts, ReadsFrom, ReadsAfter, Finishes};
 use crate::tokens;
 use crate::tokens::Found;
 use ranges::Refusal;

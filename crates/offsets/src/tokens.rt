@@ -3,7 +3,7 @@ ghost use mathlib.Core.Path.{_≡_};
 ghost use Prim.Native.Nat.{_≤_, _<_};
 ghost use lib.ListN.{length};
 ghost use Rattle.offsets.specs.Tokens.{isSeparator};
-ghost use Rattle.offsets.specs.Steps.{Finds, tokensAt, endsHere, FirstByte};
+ghost use Rattle.offsets.specs.Private.Steps.{Finds, tokensAt, endsHere, FirstByte};
 use numerals::Numeral;
 
 // What stands next in a text.

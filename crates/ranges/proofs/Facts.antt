@@ -25,7 +25,7 @@ use Rattle.arithmetic.proofs.Choice.{chosen}
 use Rattle.arithmetic.proofs.Tests.{both, never}
 use Rattle.ranges.specs.Fields.{Range, _to_, ±_, within, least, most, rangeOf, particulars, halfBreadth}
 use Rattle.ranges.specs.Outside.{outsideFrom, firstOutside, numbersOf}
-use Rattle.ranges.specs.InRange.{ParticularsInRange, HalfBreadthsInRange}
+use Rattle.ranges.specs.Private.InRange.{ParticularsInRange, HalfBreadthsInRange}
 use Rattle.ranges.specs.Sides.{sidesOf}
 use Rattle.ranges.specs.Sizes.{wholeRecords}
 use Rattle.ranges.specs.declared.Particulars.{Particulars}

@@ -11,7 +11,7 @@ use lib.Dec.{leb}
 use lib.IntN.{ℤ, pos, negsuc, natAbs}
 use Rattle.arithmetic.specs.Signed.{isNegative}
 use Rattle.arithmetic.proofs.Tests.{never}
-use Rattle.ranges.specs.Bounds.{boundsOf}
+use Rattle.ranges.specs.Private.Bounds.{boundsOf}
 use Rattle.ranges.specs.Fields.{Range, _to_, ±_, within}
 use Rattle.ranges.specs.declared.Bounds.{Bounds}
 

@@ -1,4 +1,4 @@
--- The ranges of every number of the offset file, section by section: the table of "The offset file", stated once.
+-- The ranges of every number of the paper, each stated once: those of "The offset file", section by section, and those of a row.
 use Prim.Native.Nat.{ℕ, suc}
 use mathlib.Core.Bool.{Bool, true, false, _&&_}
 use mathlib.Core.List.{List, [], _∷_, _++_}
@@ -44,7 +44,16 @@ item = 0 to 300_000 ∷ 0 to 100_000 ∷ ± 10_000 ∷ 0 to 30_000 ∷ []
 abbrev pub tank : List Range
 tank = 0 to 400_000 ∷ 1 to 400_000 ∷ 0 to 100_000 ∷ ± 10_000 ∷ 0 to 30_000 ∷ 1 to 10_000 ∷ 1 to 8_000 ∷ 1 to 1_500 ∷ []
 
--- all fields in the file's order, by number: 0..4 particulars, 5 a half-breadth, 6..9 an item, 10..17 a tank
+-- "KM above 100,000" is refused with 9: the highest KM of a row
+abbrev pub highestMetacentre : ℕ
+highestMetacentre = 100_000
+
+-- "Ranges of a row": draft mm; displacement kg; LCB mm; KB mm; BM mm; KM mm; waterplane area mm²
+abbrev pub rowRanges : List Range
+rowRanges =
+    20 to 10_000 ∷ 1 to 17_600_000 ∷ 0 to 100_000 ∷ 0 to 10_000 ∷ 0 to 100_000 ∷ 0 to highestMetacentre ∷ 0 to 1_600_000_000 ∷ []
+
+-- all fields of the file in its order, by number: 0..4 particulars, 5 a half-breadth, 6..9 an item, 10..17 a tank
 abbrev pub fields : List Range
 fields = particulars ++ halfBreadth ++ item ++ tank
 

@@ -5,6 +5,4 @@ pub mod Fields
 pub mod Sizes
 pub mod Outside
 pub mod Sides
--- Words of private contracts: no public promise is made in them.
-pub mod InRange
-pub mod Bounds
+pub mod Private

@@ -3,7 +3,7 @@ use Prim.Native.Nat.{ℕ, zero, suc, _+_, _%_}
 use mathlib.Core.Bool.{Bool, true, false}
 use mathlib.Core.List.{List, [], _∷_, map}
 use lib.Dec.{ltb}
-use lib.IntN.{ℤ, pos}
+use lib.IntN.{ℤ, pos, natAbs}
 use lib.ListN.{length, getD}
 use Rattle.arithmetic.specs.Choice.{if_then_else_}
 use Rattle.ranges.specs.Fields.{Range, _to_, within, particulars}
@@ -28,3 +28,13 @@ fieldAfter field width = if ltb (field + 1) width then field + 1 else 0
 -- the particulars in the file's order
 abbrev pub numbersOf : Particulars → List ℤ
 numbersOf p = map pos (p .n ∷ p .m ∷ p .s ∷ p .d ∷ p .density ∷ [])
+
+-- and back: the particulars that five numbers make
+abbrev pub particularsOf : List ℤ → Particulars
+particularsOf five = record {
+  n = natAbs (getD five 0 (pos 0));
+  m = natAbs (getD five 1 (pos 0));
+  s = natAbs (getD five 2 (pos 0));
+  d = natAbs (getD five 3 (pos 0));
+  density = natAbs (getD five 4 (pos 0));
+}

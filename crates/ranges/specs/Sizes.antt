@@ -1,9 +1,9 @@
 -- How many records and numbers there may be, and the room for them.
-use Prim.Native.Nat.{ℕ, _+_, _*_, _%_, _/_}
+use Prim.Native.Nat.{ℕ, _+_, _*_, _-_, _%_, _/_}
 use mathlib.Core.Bool.{Bool, _&&_}
 use lib.Dec.{leb, eqb}
 use lib.ListN.{length}
-use Rattle.ranges.specs.Fields.{rangeOf, most, item, tank}
+use Rattle.ranges.specs.Fields.{rangeOf, least, most, item, tank, rowRanges}
 
 -- "Text of at most 16,384 bytes."
 abbrev pub longestFile : ℕ
@@ -16,6 +16,26 @@ mostItems = 32
 abbrev pub mostTanks : ℕ
 mostTanks = 16
 
+-- how many numbers an item, a tank and a row have
+abbrev pub itemWidth : ℕ
+itemWidth = length item
+
+abbrev pub tankWidth : ℕ
+tankWidth = length tank
+
+abbrev pub rowWidth : ℕ
+rowWidth = length rowRanges
+
+-- m − 1 rows, one for each waterline from number 2 up: 2 of the smallest hull, 19 of the largest
+abbrev pub rowsOver : ℕ → ℕ
+rowsOver m = m - 1
+
+abbrev pub leastRows : ℕ
+leastRows = rowsOver (least (rangeOf 1))
+
+abbrev pub mostRows : ℕ
+mostRows = rowsOver (most (rangeOf 1))
+
 -- "(n+1)(m+1)" half-breadths
 abbrev pub pointsOf : ℕ → ℕ → ℕ
 pointsOf n m = (n + 1) * (m + 1)
@@ -25,10 +45,14 @@ abbrev pub roomForHalfBreadths : ℕ
 roomForHalfBreadths = pointsOf (most (rangeOf 0)) (most (rangeOf 1))
 
 abbrev pub roomForItems : ℕ
-roomForItems = length item * mostItems
+roomForItems = itemWidth * mostItems
 
 abbrev pub roomForTanks : ℕ
-roomForTanks = length tank * mostTanks
+roomForTanks = tankWidth * mostTanks
+
+-- room for the rows of any hull: 133
+abbrev pub roomForRows : ℕ
+roomForRows = rowWidth * mostRows
 
 -- "whole records, at most 32 and 16": so many numbers are records of a width, and no more of them than allowed
 unfoldable pub wholeRecords : ℕ → ℕ → ℕ → Bool

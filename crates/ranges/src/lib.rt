@@ -4,7 +4,7 @@ ghost use mathlib.Core.List.{map};
 ghost use lib.IntN.{pos};
 ghost use lib.ListN.{take, drop};
 ghost use Prim.Native.Nat.{_+_, _<_, _≤_};
-ghost use Rattle.ranges.specs.Bounds.{boundsOf};
+ghost use Rattle.ranges.specs.Private.Bounds.{boundsOf};
 ghost use Rattle.ranges.specs.Fields.{_to_, ±_, within, rangeOf, fields, particulars, halfBreadth, item, tank};
 ghost use Rattle.ranges.specs.Outside.{fieldAfter, firstOutside, numbersOf};
 ghost use Rattle.ranges.specs.Sides.{sidesOf};

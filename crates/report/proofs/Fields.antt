@@ -22,7 +22,7 @@ use Rattle.hydrostatics.specs.Row.{numbersOf}
 use Rattle.hydrostatics.specs.Usable.{rowIn}
 use Rattle.loading.specs.declared.Condition.{Condition}
 use Rattle.report.specs.Lines.{field, fields, lineOf, rowLine, word, mark, conditionLine}
-use Rattle.report.specs.Putting.{Ready, Puts, mostConditionLine, mostField, mostRowLine}
+use Rattle.report.specs.Private.Putting.{Ready, Puts, mostConditionLine, mostField, mostRowLine}
 use Rattle.report.specs.Sheet.{rowLines}
 use Rattle.report.proofs.Pieces.{puts-none, puts-le, puts-both, ready-next}
 

@@ -26,7 +26,7 @@ use Rattle.arithmetic.proofs.Room.{laid-fits}
 use Rattle.numerals.specs.Printed.{printed, Prints}
 use Rattle.numerals.proofs.Printed.{length-of-printed}
 use Rattle.report.specs.Lines.{field}
-use Rattle.report.specs.Putting.{Ready, Puts, mostField}
+use Rattle.report.specs.Private.Putting.{Ready, Puts, mostField}
 
 -- a list with a part of it, from a place to its end, as it came back
 abbrev pub withPart : ℕ → List ℕ → List ℕ → List ℕ

@@ -48,7 +48,7 @@ use Rattle.ranges.specs.declared.Refusal.{Refusal}
 use Rattle.ranges.proofs.Outcomes.{refused-not, answer-same, not-refused}
 use Rattle.report.specs.Lines.{conditionLine, refusalLine}
 use Rattle.report.specs.Promise.{reportOf, Reports}
-use Rattle.report.specs.Putting.{Ready, Puts, WholeRows, longestSheet, mostConditionLine, mostRefusalLine, mostRowLine}
+use Rattle.report.specs.Private.Putting.{Ready, Puts, WholeRows, longestSheet, mostConditionLine, mostRefusalLine, mostRowLine}
 use Rattle.report.specs.Sheet.{rowLines, conditionSaid, rowsSaid, roomForRows, fileSaid, sheetOf}
 use Rattle.report.specs.declared.Report.{Report}
 use Rattle.report.specs.declared.Report.the-variants.{Lines, Refused}

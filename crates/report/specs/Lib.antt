@@ -2,5 +2,4 @@
 pub mod Lines
 pub mod Sheet
 pub mod Promise
--- Words of private contracts: no public promise is made in them.
-pub mod Putting
+pub mod Private

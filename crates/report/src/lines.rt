@@ -5,7 +5,7 @@ ghost use mathlib.Core.Path.{_≡_};
 ghost use lib.IntN.{pos};
 ghost use lib.ListN.{length};
 ghost use Rattle.report.specs.Lines.{field, fields, rowLine, word, conditionLine, refusalLine};
-ghost use Rattle.report.specs.Putting.{Puts, Ready, mostField, mostRowLine, mostWord, mostConditionLine, mostRefusalLine};
+ghost use Rattle.report.specs.Private.Putting.{Puts, Ready, mostField, mostRowLine, mostWord, mostConditionLine, mostRefusalLine};
 ghost use Rattle.hydrostatics.specs.Usable.{rowIn};
 ghost use Rattle.report.specs.Sheet.{rowLines};
 use hydrostatics::ROW_WIDTH;

@@ -3,7 +3,7 @@ ghost use Prim.Native.Nat.{_*_};
 ghost use mathlib.Core.List.{_++_};
 ghost use Rattle.hydrostatics.specs.Rows.{rowsOf};
 ghost use Rattle.loading.specs.Condition.{conditionOf};
-ghost use Rattle.report.specs.Putting.{Puts, Ready, WholeRows, longestSheet};
+ghost use Rattle.report.specs.Private.Putting.{Puts, Ready, WholeRows, longestSheet};
 ghost use Rattle.report.specs.Sheet.{rowLines, conditionSaid, rowsSaid, roomForRows, sheetOf};
 use crate::lines;
 use hydrostatics::ROW_ROOM;

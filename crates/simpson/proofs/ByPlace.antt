@@ -12,7 +12,7 @@ use lib.Dec.{eqb, ltb, eqb·suc-suc, eqb·suc-zero, leb·suc-suc}
 use Rattle.arithmetic.specs.Choice.{if_then_else_}
 use Rattle.arithmetic.proofs.Choice.{if-either, chosen}
 use Rattle.simpson.specs.Multipliers.{firstRule, secondRule, later, multiplier}
-use Rattle.simpson.specs.Places.{repeatedFirst, secondLast, placed}
+use Rattle.simpson.specs.Private.Places.{repeatedFirst, secondLast, placed}
 
 -- two intervals, or two stations, more
 abbrev more : ℕ → ℕ

@@ -3,5 +3,4 @@ pub mod Multipliers
 pub mod Curve
 pub mod Cubic
 pub mod Figures
--- Words of private contracts: no public promise is made in them.
-pub mod Places
+pub mod Private

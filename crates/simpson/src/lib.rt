@@ -2,7 +2,7 @@
 ghost use mathlib.Core.Path.{_≡_};
 ghost use Prim.Native.Nat.{_≤_};
 ghost use Rattle.simpson.specs.Multipliers.{multiplier as Multipliers·multiplier};
-ghost use Rattle.simpson.specs.Places.{repeatedFirst, secondLast};
+ghost use Rattle.simpson.specs.Private.Places.{repeatedFirst, secondLast};
 ghost use Rattle.simpson.specs.Curve.{curveSumOf};
 
 // The first rule covers two intervals. Its multipliers, in 24ths of one: at its ends, between them, and where it meets itself.

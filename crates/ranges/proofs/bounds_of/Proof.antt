@@ -4,7 +4,7 @@ use mathlib.Core.Path.{_≡_, ap, sym, _∙_}
 use Prim.Native.Nat.{ℕ, suc, _≤_}
 use native.Mathlib.Omega.{arith}
 use lib.ListN.{List·getD-eq-default}
-use Rattle.ranges.specs.Bounds.{boundsOf}
+use Rattle.ranges.specs.Private.Bounds.{boundsOf}
 use Rattle.ranges.specs.Fields.{_to_, fields, rangeOf}
 use Rattle.ranges.specs.declared.Bounds.{Bounds}
 use Rattle.ranges.proofs.bounds_of.Statement.{statement}

@@ -1,6 +1,6 @@
 -- The tests tell the place, and the multipliers by place are the paper's. Assumes nothing.
 use borrow.Author.Needs.{needs}
-use Rattle.simpson.specs.Places.{placed}
+use Rattle.simpson.specs.Private.Places.{placed}
 use Rattle.arithmetic.proofs.Choice.{told}
 use Rattle.simpson.proofs.ByPlace.{by-place}
 use Rattle.simpson.proofs.multiplier.Statement.{statement}

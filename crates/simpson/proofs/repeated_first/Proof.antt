@@ -1,6 +1,6 @@
 -- Each return is the place that its tests tell. Assumes nothing.
 use borrow.Author.Needs.{needs}
-use Rattle.simpson.specs.Places.{repeatedFirst}
+use Rattle.simpson.specs.Private.Places.{repeatedFirst}
 use Rattle.arithmetic.proofs.Choice.{told}
 use Rattle.simpson.proofs.repeated_first.Statement.{statement}
 use Rattle.simpson.proofs.repeated_first.Tie as tie

@@ -1,6 +1,6 @@
 -- Each return is the place that its tests tell. Assumes nothing.
 use borrow.Author.Needs.{needs}
-use Rattle.simpson.specs.Places.{secondLast}
+use Rattle.simpson.specs.Private.Places.{secondLast}
 use Rattle.arithmetic.proofs.Choice.{told}
 use Rattle.simpson.proofs.second_last.Statement.{statement}
 use Rattle.simpson.proofs.second_last.Tie as tie

@@ -4,7 +4,7 @@ use native.Mathlib.Omega.{arith}
 use borrow.Author.Needs.{needs}
 use lib.ListN.{getD, length-drop}
 use Rattle.arithmetic.proofs.Parts.{part-end}
-use Rattle.hydrostatics.specs.Table.{noRow}
+use Rattle.hydrostatics.specs.Private.Table.{noRow}
 use Rattle.hydrostatics.proofs.Writing.{Written, written-none, written-more, written-all}
 use Rattle.hydrostatics.proofs.table.write_rows.Statement.{statement}
 use Rattle.hydrostatics.proofs.table.write_rows.Tie as tie

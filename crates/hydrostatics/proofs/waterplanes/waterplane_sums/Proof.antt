@@ -3,7 +3,7 @@ use Prim.Native.Nat.{_+_, _-_, _≤_}
 use mathlib.Core.Path.{refl}
 use native.Mathlib.Omega.{arith}
 use Rattle.hydrostatics.specs.Hull.{Q}
-use Rattle.hydrostatics.specs.Waterplanes.{X}
+use Rattle.hydrostatics.specs.Private.Waterplanes.{X}
 use Rattle.hydrostatics.proofs.Filling.{Filling, filling-none, filling-more, filling-all}
 use Rattle.hydrostatics.proofs.waterplanes.waterplane_sums.Statement.{statement}
 use Rattle.hydrostatics.proofs.waterplanes.waterplane_sums.Tie as tie

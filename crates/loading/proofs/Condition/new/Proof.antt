@@ -6,7 +6,7 @@ use borrow.Author.Needs.{needs}
 use Rattle.arithmetic.specs.Rounding.{roundedUp}
 use Rattle.arithmetic.proofs.Crossing.{back, back-is}
 use Rattle.loading.specs.Stability.{heelOf}
-use Rattle.loading.specs.Steady.{gmOf, transverseOf}
+use Rattle.loading.specs.Private.Steady.{gmOf, transverseOf}
 use Rattle.loading.proofs.Made.{moderate, made}
 use Rattle.loading.proofs.Condition.new.Statement.{statement}
 use Rattle.loading.proofs.Condition.new.Tie as tie

@@ -3,7 +3,7 @@ use native.Mathlib.Nat.{mul-le-mul}
 use native.Mathlib.Omega.{arith}
 use Prim.Native.Nat.{ℕ, _*_, _-_, _≤_}
 use borrow.Author.Needs.{needs}
-use Rattle.loading.specs.Afloat.{OnLine}
+use Rattle.loading.specs.Private.Afloat.{OnLine}
 use Rattle.loading.proofs.floating.on_line.Statement.{statement}
 use Rattle.loading.proofs.floating.on_line.Tie as tie
 

@@ -3,7 +3,7 @@ use mathlib.Core.Path.{_≡_, refl, sym, _∙_}
 use Prim.Native.Nat.{_+_, _-_, _≤_, _<_}
 use native.Mathlib.Omega.{arith}
 use Rattle.hydrostatics.specs.Usable.{rowIn}
-use Rattle.loading.specs.Afloat.{RowBelow}
+use Rattle.loading.specs.Private.Afloat.{RowBelow}
 use Rattle.loading.specs.Table.{tableOf, rowsFrom, placeFrom, placeOf}
 use Rattle.loading.proofs.Tables.{place-next}
 use Rattle.loading.proofs.floating.row_below.Statement.{statement}

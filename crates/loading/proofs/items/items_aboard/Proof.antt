@@ -5,7 +5,7 @@ use Prim.Native.Nat.{_-_, _%_}
 use native.Mathlib.Nat.{add-assoc}
 use native.Mathlib.Omega.{arith}
 use lib.ListN.{length}
-use Rattle.loading.specs.Aboard.{_with_, itemAt, ofItem}
+use Rattle.loading.specs.Private.Aboard.{_with_, itemAt, ofItem}
 use Rattle.loading.specs.Records.{itemsOf}
 use Rattle.loading.proofs.Reaches.{reach-weight, reach-less}
 use Rattle.loading.proofs.Stowage.{item-stowed, item-stowed-in}

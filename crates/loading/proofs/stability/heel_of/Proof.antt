@@ -7,7 +7,7 @@ use lib.Dec.{lit≤}
 use lib.IntN.{natAbs}
 use Rattle.arithmetic.proofs.Crossing.{heard, back-is}
 use Rattle.arithmetic.proofs.Floats.{exact-whole, exact-signed}
-use Rattle.loading.specs.Steady.{aboveZero}
+use Rattle.loading.specs.Private.Steady.{aboveZero}
 use Rattle.loading.proofs.Heels.{unstable, upright, heeled, beyond}
 use borrow.Author.Needs.{needs}
 use Rattle.loading.proofs.stability.heel_of.Statement.{statement}

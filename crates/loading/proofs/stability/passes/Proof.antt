@@ -7,7 +7,7 @@ use borrow.Author.Tests.{le-leb, lt-leb}
 use lib.Dec.{leb}
 use Rattle.arithmetic.proofs.Crossing.{heard}
 use Rattle.loading.specs.Stability.{leastGM, stands}
-use Rattle.loading.specs.Steady.{aboveZero, passesWith}
+use Rattle.loading.specs.Private.Steady.{aboveZero, passesWith}
 use Rattle.loading.proofs.Heels.{pass-by}
 use borrow.Author.Needs.{needs}
 use Rattle.loading.proofs.stability.passes.Statement.{statement}

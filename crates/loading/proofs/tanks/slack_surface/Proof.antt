@@ -7,7 +7,7 @@ use borrow.Author.Needs.{needs}
 use Rattle.arithmetic.specs.Rounding.{roundedUp}
 use Rattle.arithmetic.proofs.Ring.{pow3}
 use Rattle.ranges.specs.Fields.{most, rangeOf}
-use Rattle.loading.specs.Aboard.{RoomOf}
+use Rattle.loading.specs.Private.Aboard.{RoomOf}
 use Rattle.loading.proofs.tanks.slack_surface.Statement.{statement}
 use Rattle.loading.proofs.tanks.slack_surface.Tie as tie
 

@@ -6,7 +6,7 @@ use native.Mathlib.Omega.{arith}
 use lib.ListN.{length, drop}
 use Rattle.ranges.specs.Fields.{tank}
 use Rattle.ranges.specs.Outside.{firstOutside}
-use Rattle.loading.specs.Aboard.{_with_, tankAt, ofTank, TankFits}
+use Rattle.loading.specs.Private.Aboard.{_with_, tankAt, ofTank, TankFits}
 use Rattle.loading.specs.Condition.{tanksFrom}
 use Rattle.loading.specs.Records.{tanksOf}
 use Rattle.loading.specs.declared.tanks.Trial.the-variants.{Refused}

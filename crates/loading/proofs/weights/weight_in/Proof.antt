@@ -3,7 +3,7 @@ use mathlib.Core.Path.{_≡_, _∙_}
 use Prim.Native.Nat.{_+_}
 use borrow.Author.Needs.{needs}
 use Rattle.arithmetic.proofs.Crossing.{back, back-is}
-use Rattle.loading.specs.Aboard.{numberAt}
+use Rattle.loading.specs.Private.Aboard.{numberAt}
 use Rattle.loading.proofs.weights.weight_in.Statement.{statement}
 use Rattle.loading.proofs.weights.weight_in.Tie as tie
 

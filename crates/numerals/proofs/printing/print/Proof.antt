@@ -2,7 +2,7 @@
 use mathlib.Core.Path.{sym, ap₂, _∙_}
 use borrow.Author.Needs.{needs}
 use Rattle.arithmetic.proofs.Crossing.{back, back-is}
-use Rattle.numerals.specs.Sign.{withSign}
+use Rattle.numerals.specs.Private.Sign.{withSign}
 use Rattle.numerals.proofs.Prints.{by-sign, negative-some}
 use Rattle.numerals.proofs.printing.print.Statement.{statement}
 use Rattle.numerals.proofs.printing.print.Tie as tie

@@ -12,7 +12,7 @@ use Rattle.arithmetic.proofs.Products.{product-fits}
 use Rattle.ranges.specs.Fields.{within, rangeOf}
 use Rattle.ranges.specs.Sizes.{pointsOf}
 use Rattle.ranges.proofs.Facts.{within-whole}
-use Rattle.offsets.specs.Steps.{pointsIn}
+use Rattle.offsets.specs.Private.Steps.{pointsIn}
 use borrow.Author.Needs.{needs}
 use Rattle.offsets.proofs.reader.points_in.Statement.{statement}
 use Rattle.offsets.proofs.reader.points_in.Tie as tie

@@ -1,5 +1,5 @@
 -- The file is read into room of the reader's own, and what it says is copied. Assumes nothing.
-use Rattle.offsets.specs.Steps.{Rooms}
+use Rattle.offsets.specs.Private.Steps.{Rooms}
 use Prim.Native.Nat.{_≤_}
 use native.Mathlib.Omega.{arith}
 use Rattle.offsets.proofs.Answers.{file-refused, sheet}

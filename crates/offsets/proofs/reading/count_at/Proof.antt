@@ -6,7 +6,7 @@ use mir.Syntax.{w64}
 use Rattle.arithmetic.proofs.Crossing.{back-is, heard}
 use Rattle.ranges.specs.Fields.{_to_, within}
 use Rattle.ranges.specs.Outcome.{answered}
-use Rattle.offsets.specs.Steps.{onStep, tokensAt}
+use Rattle.offsets.specs.Private.Steps.{onStep, tokensAt}
 use Rattle.offsets.proofs.Taking.{count-end, count-none, count-in, count-out}
 use Rattle.offsets.proofs.reading.count_at.Statement.{statement}
 use Rattle.offsets.proofs.reading.count_at.Tie as tie

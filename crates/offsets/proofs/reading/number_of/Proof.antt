@@ -2,7 +2,7 @@
 use mathlib.Core.Path.{sym, _∙_}
 use Rattle.arithmetic.proofs.Crossing.{back-is, heard}
 use Rattle.ranges.specs.Fields.{within, rangeOf}
-use Rattle.offsets.specs.Steps.{onOne}
+use Rattle.offsets.specs.Private.Steps.{onOne}
 use Rattle.offsets.proofs.Taking.{one-end, one-none, one-in, one-out}
 use borrow.Author.Needs.{needs, sfits-of}
 use mir.Syntax.{w64}

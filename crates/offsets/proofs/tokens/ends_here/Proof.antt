@@ -1,7 +1,7 @@
 -- A separator, or the end. Assumes nothing.
 use borrow.Author.Tests.{lt-ltb, le-ltb}
 use Rattle.arithmetic.proofs.Choice.{chosen}
-use Rattle.offsets.specs.Steps.{endsHere}
+use Rattle.offsets.specs.Private.Steps.{endsHere}
 use borrow.Author.Needs.{needs}
 use Rattle.offsets.proofs.tokens.ends_here.Statement.{statement}
 use Rattle.offsets.proofs.tokens.ends_here.Tie as tie

@@ -5,7 +5,7 @@ use native.Mathlib.Omega.{arith}
 use borrow.Author.Needs.{needs}
 use borrow.Author.Tests.{not-true, not-false}
 use lib.ListN.{length}
-use Rattle.offsets.specs.Steps.{tokensAt}
+use Rattle.offsets.specs.Private.Steps.{tokensAt}
 use Rattle.offsets.proofs.Words.{at-separator}
 use Rattle.offsets.proofs.tokens.first_byte.Statement.{statement}
 use Rattle.offsets.proofs.tokens.first_byte.Tie as tie

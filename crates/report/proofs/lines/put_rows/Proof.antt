@@ -2,7 +2,7 @@
 use Prim.Native.Nat.{_*_, _-_, _≤_}
 use mathlib.Core.Path.{_≡_}
 use native.Mathlib.Omega.{arith}
-use Rattle.report.specs.Putting.{Puts}
+use Rattle.report.specs.Private.Putting.{Puts}
 use Rattle.report.specs.Sheet.{rowLines}
 use Rattle.report.proofs.Fields.{rows-none, rows-more}
 use Rattle.report.proofs.Pieces.{puts-length, ready-next}

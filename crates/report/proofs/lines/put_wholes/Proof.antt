@@ -5,7 +5,7 @@ use native.Mathlib.Omega.{arith}
 use lib.IntN.{pos}
 use lib.ListN.{length, take}
 use Rattle.report.specs.Lines.{fields}
-use Rattle.report.specs.Putting.{Puts}
+use Rattle.report.specs.Private.Putting.{Puts}
 use Rattle.report.proofs.Fields.{wholes-none, wholes-more, wholes-all}
 use Rattle.report.proofs.Pieces.{puts-length, ready-next}
 use Rattle.report.proofs.lines.put_wholes.Statement.{statement}

@@ -3,7 +3,7 @@ use Prim.Native.Nat.{ℕ, _+_, _*_, _≤_, _<_}
 use mathlib.Core.Path.{_≡_}
 use mathlib.Core.List.{List}
 use lib.ListN.{length, getD}
-use Rattle.ranges.specs.InRange.{ParticularsInRange, HalfBreadthsInRange}
+use Rattle.ranges.specs.Private.InRange.{ParticularsInRange, HalfBreadthsInRange}
 use Rattle.ranges.specs.declared.Particulars.{Particulars}
 use Rattle.simpson.specs.Multipliers.{multiplier}
 use Rattle.simpson.specs.Curve.{curve}

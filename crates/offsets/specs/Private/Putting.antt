@@ -7,7 +7,7 @@ use lib.IntN.{ℤ, pos}
 use lib.ListN.{length}
 use lib.Seq.{sets}
 use Rattle.ranges.specs.Fields.{particulars, halfBreadth, item, tank}
-use Rattle.ranges.specs.InRange.{HalfBreadthsInRange}
+use Rattle.ranges.specs.Private.InRange.{HalfBreadthsInRange}
 use Rattle.ranges.specs.Outside.{firstOutside, numbersOf}
 use Rattle.ranges.specs.Sizes.{pointsOf, roomForHalfBreadths, wholeRecords, mostItems, mostTanks}
 use Rattle.ranges.specs.declared.Particulars.{Particulars}

@@ -7,12 +7,11 @@ use lib.IntN.{ℤ, pos, negsuc, natAbs, _-ℤ_}
 use lib.Signed.{leZ}
 use Rattle.arithmetic.specs.Choice.{if_then_else_}
 use Rattle.arithmetic.specs.Rounding.{roundedUp}
-use Rattle.hydrostatics.specs.Row.{highestMetacentre}
-use Rattle.ranges.specs.Fields.{most, rangeOf}
+use Rattle.ranges.specs.Fields.{most, rangeOf, highestMetacentre}
 use Rattle.ranges.specs.Outcome.{Outcome, answered, refused, andThen}
 use Rattle.ranges.specs.Refusals.{tooLight, tooHeavy}
-use Rattle.loading.specs.Aboard.{Bearable, ItemsFit, TanksWhole}
-use Rattle.loading.specs.Afloat.{RowsUsable}
+use Rattle.loading.specs.Private.Aboard.{Bearable, ItemsFit, TanksWhole}
+use Rattle.loading.specs.Private.Afloat.{RowsUsable}
 use Rattle.loading.specs.Condition.{tanksFrom, floats}
 use Rattle.loading.specs.Paper.{paperRules}
 use Rattle.loading.specs.Records.{loadOf}

@@ -5,7 +5,7 @@ use mathlib.Core.List.{List}
 use lib.Dec.{ltb}
 use lib.ListN.{length}
 use Rattle.arithmetic.specs.Choice.{if_then_else_}
-use Rattle.hydrostatics.specs.Row.{highestMetacentre}
+use Rattle.ranges.specs.Fields.{highestMetacentre}
 use Rattle.hydrostatics.specs.Usable.{rowIn, usableUpTo}
 use Rattle.ranges.specs.Outcome.{answered, refused}
 use Rattle.ranges.specs.Refusals.{rowsNotUsable}

@@ -6,7 +6,7 @@ use Rattle.ranges.specs.declared.Particulars.{Particulars}
 use Rattle.hydrostatics.specs.Promise.{paper, countOf, tableAfter}
 use Rattle.hydrostatics.specs.Row.{rowOf, numbersOf}
 use Rattle.hydrostatics.specs.Rows.{rowsUpTo}
-use Rattle.hydrostatics.specs.Waterplanes.{Filled}
+use Rattle.hydrostatics.specs.Private.Waterplanes.{Filled}
 use Rattle.hydrostatics.specs.declared.Row.{Row}
 use Rattle.hydrostatics.specs.declared.Rows.{Rows}
 use Rattle.hydrostatics.specs.declared.Rows.the-variants.{Made}

@@ -1,0 +1,3 @@
+-- Words of private contracts: no public promise is made in them.
+pub mod Waterplanes
+pub mod Table
