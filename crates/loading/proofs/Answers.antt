@@ -1,36 +1,47 @@
--- What an answered condition says: its rows are usable, its weight lies within them, and it is the condition of its load.
---     hull                       the table of a lent list of rows
---     Answered, answer-says      what is known of a condition that was answered
+-- When a condition is answered: where all of its tests are passed, and then it is the condition of its load.
+--     Tried            the tests in the paper's order: sizes, rows, items, tanks, the weight
+--     answer-says      what is answered was tried, and is the condition of its load
+--     tried-answered   and the other way
+--     rows-are-usable  the rows of a condition that was tried are usable in the words of demand 3
 -- Assumes nothing.
 use mathlib.Core.Path.{_≡_, refl, sym, ap, _∙_}
 use mathlib.Core.Bool.{Bool, true, false}
 use mathlib.Core.List.{List}
 use Prim.Native.Nat.{ℕ, _+_, _/_, _≤_}
 use native.Mathlib.Omega.{arith}
-use borrow.Author.Tests.{ltb-false, not-false}
+use borrow.Author.Tests.{le-ltb, ltb-false, not-false}
 use lib.IntN.{ℤ}
 use lib.ListN.{length}
+use Rattle.arithmetic.proofs.Choice.{chosen}
+use Rattle.hydrostatics.specs.Usable.{usableUpTo}
 use Rattle.ranges.specs.Fields.{item}
 use Rattle.ranges.specs.Outcome.{Outcome, answered, refused, andThen}
 use Rattle.ranges.specs.Outside.{firstOutside}
-use Rattle.ranges.specs.Refusals.{outOfRange, wrongSize, tooLight, tooHeavy}
+use Rattle.ranges.specs.Refusals.{outOfRange, wrongSize, tooLight, tooHeavy, placeOfItems, itemTable, tankTable, rowTable}
+use Rattle.ranges.specs.Sizes.{rowWidth}
 use Rattle.ranges.proofs.Outcomes.{not-refused, answered-then}
-use Rattle.loading.specs.Condition.{conditionAt, floats, conditionOf}
+use Rattle.ranges.proofs.Outside.{outside-le}
+use Rattle.loading.specs.Condition.{tanksFrom, conditionAt, floats, conditionOf}
 use Rattle.loading.specs.Load.{Load, weight}
+use Rattle.loading.specs.Private.Afloat.{Within}
 use Rattle.loading.specs.Records.{loadOf}
-use Rattle.loading.specs.Straight.{Usable}
-use Rattle.loading.specs.Table.{Table, Within, tableOf}
+use Rattle.loading.specs.Table.{Table, hull, lastRow}
 use Rattle.loading.specs.declared.Condition.{Condition}
+use Rattle.loading.proofs.Laws.{Usable}
 use Rattle.loading.proofs.Order.{Sized, rows-whole}
 use Rattle.loading.proofs.Usability.{usable-count, usable-table}
 
-abbrev pub hull : List ℕ → Table
-hull rows = tableOf rows (length rows / 7)
-
-pub record Answered (items tanks : List ℤ) (rows : List ℕ) (c : Condition) : Type 0 where
-  pub usable : Usable (hull rows)
+pub record Tried (items tanks : List ℤ) (rows : List ℕ) : Type 0 where
+  pub sized : Sized items tanks rows
+  pub rows-usable : usableUpTo rows (length rows / rowWidth) ≡ answered (length rows / rowWidth)
+  pub items-inside : firstOutside item items ≡ length items
+  pub last : ℕ
+  pub tanks-passed : tanksFrom 0 tanks ≡ answered last
   pub within : Within (hull rows) (weight (loadOf items tanks))
-  pub is : c ≡ conditionAt (hull rows) (loadOf items tanks)
+
+pub rows-are-usable : {items tanks : List ℤ} {rows : List ℕ} → Tried items tanks rows → Usable (hull rows)
+rows-are-usable {items} {tanks} {rows} t =
+    usable-table rows (length rows / rowWidth) (record { size = rows-whole items tanks rows (t .sized); usable = t .rows-usable })
 
 -- a weight that floats lies within the table
 floating : (t : Table) (l : Load) {c : Condition} → floats t l ≡ answered c → Within t (weight l) × (c ≡ conditionAt t l)
@@ -40,20 +51,38 @@ floating t l {c} e =
     let heavy = not-refused tooHeavy 0 (light .1) in
     (record { least = ltb-false _ _ (light .0); most = ltb-false _ _ (heavy .0) }, cc (heavy .1))
 
-pub answer-says : (items tanks : List ℤ) (rows : List ℕ) {c : Condition} → conditionOf items tanks rows ≡ answered c → Answered items tanks rows c
-unfolding conditionOf
-answer-says items tanks rows {c} e =
-    let count = length rows / 7 in
-    let i = not-refused wrongSize 1 e in
-    let k = not-refused wrongSize 2 (i .1) in
-    let r = not-refused wrongSize 3 (k .1) in
-    let u = answered-then (r .1) in
-    let j = not-refused outOfRange (1_000 + firstOutside item items) (u .2) in
-    let t = answered-then (j .1) in
-    let f = floating (hull rows) (loadOf items tanks) (t .2) in
-    let sized : Sized items tanks rows = record { items-whole = not-false _ (i .0); tanks-whole = not-false _ (k .0); rows-allowed = not-false _ (r .0) } in
-    record {
-      usable = usable-table rows count (record { size = rows-whole items tanks rows sized; usable = usable-count rows count (u .0) (u .1) });
-      within = f .0;
-      is = f .1;
-    }
+-- and the other way
+within-floats : (t : Table) (l : Load) → Within t (weight l) → floats t l ≡ answered (conditionAt t l)
+unfolding floats
+within-floats t l w =
+    simp (le-ltb (weight l) (t .first .displacement) (w .least), le-ltb (lastRow t .displacement) (weight l) (w .most), chosen)
+
+module _ (items tanks : List ℤ) (rows : List ℕ) where
+  pub answer-says : {c : Condition} → conditionOf items tanks rows ≡ answered c → Tried items tanks rows × (c ≡ conditionAt (hull rows) (loadOf items tanks))
+  unfolding conditionOf
+  answer-says {c} e =
+      let count = length rows / rowWidth in
+      let bad = firstOutside item items in
+      let i = not-refused wrongSize itemTable e in
+      let k = not-refused wrongSize tankTable (i .1) in
+      let r = not-refused wrongSize rowTable (k .1) in
+      let u = answered-then (r .1) in
+      let j = not-refused outOfRange (placeOfItems + bad) (u .2) in
+      let t = answered-then (j .1) in
+      let f = floating (hull rows) (loadOf items tanks) (t .2) in (
+        record {
+          sized = record { items-whole = not-false _ (i .0); tanks-whole = not-false _ (k .0); rows-allowed = not-false _ (r .0) };
+          rows-usable = usable-count rows count (u .0) (u .1);
+          items-inside = omega (arith, ltb-false bad (length items) (j .0), outside-le item items);
+          last = t .0;
+          tanks-passed = t .1;
+          within = f .0;
+        },
+        f .1,
+      )
+
+  pub tried-answered : Tried items tanks rows → conditionOf items tanks rows ≡ answered (conditionAt (hull rows) (loadOf items tanks))
+  unfolding conditionOf andThen
+  tried-answered t =
+      let all : length items ≤ firstOutside item items = omega (arith, t .items-inside) in
+      simp (t .sized .items-whole, t .sized .tanks-whole, t .sized .rows-allowed, t .rows-usable, le-ltb _ _ all, t .tanks-passed, within-floats (hull rows) (loadOf items tanks) (t .within), chosen)

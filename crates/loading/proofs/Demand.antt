@@ -1,7 +1,8 @@
 -- Demand 3, from the laws of the rules alone.
+--     Demand3         its sentences, of loads over a table, by any rules for KM and free surface
 --     demand-3        for any sound rules and any usable table
 -- Of the conditions themselves: `Demand3`. Assumes nothing.
-use mathlib.Core.Path.{sym, ap, subst, subst₂}
+use mathlib.Core.Path.{_≡_, sym, ap, subst, subst₂}
 use Prim.Native.Nat.{ℕ, _+_, _≤_, _<_}
 use native.Mathlib.Omega.{arith}
 use lib.Dec.{T}
@@ -9,20 +10,28 @@ use lib.IntN.{pos, _-ℤ_}
 use lib.Signed.{_≤ℤ_}
 use Rattle.arithmetic.specs.Rounding.{roundedUp}
 use Rattle.arithmetic.proofs.Rounding.{up-of, up-mono}
-use Rattle.loading.specs.Demand.{Demand3}
 use Rattle.loading.specs.Fraction.{LessThanThreeBelow}
 use Rattle.loading.specs.Load.{Load, weight, verticalMoment, transverseMoment, Lowered}
 use Rattle.loading.specs.Rules.{Rules}
-use Rattle.loading.specs.Stability.{passes, kmAt, gmAt, freeSurface, freeSurfaceParts, km, gm, unroundedGM, Passes}
-use Rattle.loading.specs.Straight.{Usable}
-use Rattle.loading.specs.Table.{Table, Within, placeOf, draftOf}
+use Rattle.loading.specs.Stability.{passes, draft, kmAt, gmAt, freeSurface, freeSurfaceParts, km, gm, unroundedGM, Passes}
+use Rattle.loading.specs.Private.Afloat.{Within}
+use Rattle.loading.specs.Straight.{Greatest}
+use Rattle.loading.specs.Table.{Table, placeOf, draftOf}
 use Rattle.loading.proofs.Difference.{difference-le}
 use Rattle.loading.proofs.Drafts.{draft-is-greatest, heavier-draft}
-use Rattle.loading.proofs.Laws.{Sound}
+use Rattle.loading.proofs.Laws.{Sound, Usable}
 use Rattle.loading.proofs.Lowering.{lower-weight, lower-vertical, lower-transverse, pass-mono}
 use Rattle.loading.proofs.Margin.{less-than-three}
 use Rattle.loading.proofs.Places.{place-stands}
 use Rattle.loading.proofs.Surfaces.{lower-surface, surface-enough, surface-close}
+
+pub record Demand3 (rules : Rules) (t : Table) : Type 0 where
+  pub draft-is-greatest : (l : Load) → Within t (weight l) → Greatest t (weight l) (draft t l)
+  pub heavier-never-floats-higher : (k l : Load) → Within t (weight k) → Within t (weight l) → weight k ≤ weight l → draft t k ≤ draft t l
+  pub equal-weights-float-alike : (k l : Load) → weight k ≡ weight l → (draft t k ≡ draft t l) × (km rules t k ≡ km rules t l)
+  pub lowering-never-lowers-gm : (k l : Load) → Within t (weight l) → Lowered k l → gm rules t l ≤ℤ gm rules t k
+  pub lowering-keeps-a-pass : (k l : Load) → Within t (weight l) → Lowered k l → Passes rules t l → Passes rules t k
+  pub gm-is-close : (l : Load) → Within t (weight l) → LessThanThreeBelow (gm rules t l) (unroundedGM rules t l)
 
 -- less KG, more GM
 less-kg : (km a b W : ℕ) → 0 < W → b ≤ a → (pos km -ℤ pos (roundedUp a W)) ≤ℤ (pos km -ℤ pos (roundedUp b W))

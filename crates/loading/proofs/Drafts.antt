@@ -21,8 +21,10 @@ use Rattle.arithmetic.proofs.Choice.{if-either}
 use Rattle.arithmetic.proofs.Ring.{ring}
 use Rattle.arithmetic.proofs.Rounding.{down-of, down-greatest}
 use Rattle.hydrostatics.specs.declared.Row.{Row}
-use Rattle.loading.specs.Straight.{Waterlines, last, next, Usable, straightFrom, straight, InTable, Greatest}
-use Rattle.loading.specs.Table.{Table, lastFrom, Within, Place, spacing, line, draftAt, draftOf}
+use Rattle.loading.proofs.Laws.{Waterlines, last, next, Usable}
+use Rattle.loading.specs.Straight.{straightFrom, straight, InTable, Greatest}
+use Rattle.loading.specs.Private.Afloat.{Within}
+use Rattle.loading.specs.Table.{Table, lastFrom, Place, spacing, line, draftAt, draftOf}
 use Rattle.loading.proofs.Places.{Falls, here, inside, further, place-falls}
 
 -- each row heavier than the one before it, and deeper by d

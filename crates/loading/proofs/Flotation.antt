@@ -15,9 +15,9 @@ use Rattle.arithmetic.proofs.Rounding.{down-of, down-mono, down-whole}
 use Rattle.ranges.specs.Fields.{highestMetacentre}
 use Rattle.hydrostatics.specs.Usable.{rowIn, spacing}
 use Rattle.hydrostatics.specs.declared.Row.{Row}
-use Rattle.loading.specs.Private.Afloat.{RowsUsable, RowBelow, OnLine, Floats}
+use Rattle.loading.specs.Private.Afloat.{RowsUsable, RowBelow, OnLine, Floats, Within}
 use Rattle.loading.specs.Paper.{paperRules, onLine}
-use Rattle.loading.specs.Table.{Table, Within, Place, on, between, tableOf, lastRow, placeOf, draftAt, line}
+use Rattle.loading.specs.Table.{Table, Place, on, between, tableOf, lastRow, placeOf, draftAt, line}
 use Rattle.loading.specs.declared.floating.Floating.{Floating}
 use Rattle.loading.proofs.Tables.{last-row, place-on, place-between}
 use Rattle.loading.proofs.Usability.{UsableRow, usable-at, rises-at}

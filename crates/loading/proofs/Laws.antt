@@ -1,11 +1,25 @@
--- What demand 3 asks of the rules for KM and free surface, and nothing more. Definitions only; that the paper's rules meet them: `Readings`.
+-- What demand 3 asks of a table of rows and of the rules for KM and free surface, and nothing more. Definitions only.
+--     Waterlines, Usable                          the table; that one not refused with 10 is so: `Usability`
+--     SoundReading, SoundSurface, Sound           the rules; that the paper's are so: `Readings`
 use mathlib.Core.Path.{_≡_}
-use Prim.Native.Nat.{ℕ, _≤_, _<_}
+use mathlib.Core.List.{List, [], _∷_}
+use Prim.Native.Nat.{ℕ, _+_, _*_, _≤_, _<_}
 use Rattle.arithmetic.specs.Rounding.{RoundedDown}
+use Rattle.hydrostatics.specs.declared.Row.{Row}
 use Rattle.loading.specs.Load.{Tank, LoweredTank}
 use Rattle.loading.specs.Rules.{Reading, Surface, Rules}
-use Rattle.loading.specs.Table.{Place}
+use Rattle.loading.specs.Table.{Table, Place, spacing}
 use Rattle.loading.proofs.Places.{Stands}
+
+-- From waterline k on, each row's draft is d·k, and displacements rise strictly.
+pub data Waterlines (d : ℕ) : ℕ → Row → List Row → Type 0 where
+  last : {k : ℕ} {r : Row} → r .draft ≡ d * k → Waterlines d k r []
+  next : {k : ℕ} {r s : Row} {rest : List Row} → r .draft ≡ d * k → r .displacement < s .displacement → Waterlines d (k + 1) s rest → Waterlines d k r (s ∷ rest)
+
+pub record Usable (t : Table) : Type 0 where
+  pub afloat : 0 < t .first .displacement
+  pub spaced : 0 < spacing t
+  pub waterlines : Waterlines (spacing t) 2 (t .first) (t .rest)
 
 -- KM is the unrounded KM rounded down.
 pub record SoundReading (reading : Reading) : Type 0 where

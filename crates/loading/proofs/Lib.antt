@@ -23,6 +23,7 @@ pub mod Trying
 pub mod Order
 pub mod Unique
 pub mod Answers
+pub mod Lowered
 pub mod Demand3
 pub mod Figures
 pub mod Numbered

@@ -1,8 +1,8 @@
 -- What lowering does to weight and moments; and that a higher GM passes where a lower one does.
---     lower-weight, lower-transverse      lowering leaves the weight and the transverse moment
---     lower-vertical                      and does not raise the vertical moment
---     pass-is                             a pass, told in numbers
---     pass-mono                           a higher GM passes where a lower one does
+--     lower-weight, lower-longitudinal, lower-transverse      lowering leaves the weight and these moments
+--     lower-vertical                                          and does not raise the vertical one
+--     pass-is                                                 a pass, told in numbers
+--     pass-mono                                               a higher GM passes where a lower one does
 -- Assumes nothing.
 use mathlib.Core.Path.{_≡_, ap₂}
 use mathlib.Core.Bool.{Bool, true, false, _&&_}
@@ -14,7 +14,7 @@ use lib.Dec.{T, eqb, leb, leb→le, le→leb, eqb→eq}
 use lib.IntN.{ℤ, pos, negsuc, natAbs, _+ℤ_, _*ℤ_}
 use lib.Signed.{_≤ℤ_}
 use Rattle.arithmetic.specs.Choice.{if_then_else_}
-use Rattle.loading.specs.Load.{Load, weight, verticalMoment, transverseMoment, Lowered}
+use Rattle.loading.specs.Load.{Load, weight, longitudinalMoment, verticalMoment, transverseMoment, Lowered}
 use Rattle.loading.specs.Stability.{leastGM, heelLimit, heelOf, stands, passes, tangent}
 use Rattle.loading.specs.declared.Heel.the-variants.{Unstable, Upright, Heeled, Beyond}
 use Rattle.loading.proofs.Totals.{total-same, totalℤ-same, total-mono}
@@ -22,6 +22,13 @@ use Rattle.loading.proofs.Totals.{total-same, totalℤ-same, total-mono
 pub lower-weight : (k l : Load) → Lowered k l → weight k ≡ weight l
 unfolding weight
 lower-weight k l h = ap₂ _+_ (total-same (λ i. i .kg) (λ i j r. r .kg) (h .items)) (total-same (λ t. t .contents) (λ s t r. r .contents) (h .tanks))
+
+pub lower-longitudinal : (k l : Load) → Lowered k l → longitudinalMoment k ≡ longitudinalMoment l
+unfolding longitudinalMoment
+lower-longitudinal k l h =
+    ap₂ _+_
+    (total-same (λ i. i .kg * i .x) (λ i j r. ap₂ _*_ (r .kg) (r .x)) (h .items))
+    (total-same (λ t. t .contents * t .x) (λ s t r. ap₂ _*_ (r .contents) (r .x)) (h .tanks))
 
 pub lower-transverse : (k l : Load) → Lowered k l → transverseMoment k ≡ transverseMoment l
 unfolding transverseMoment

@@ -29,7 +29,7 @@ use Rattle.ranges.proofs.Outcomes.{refused-not, answered-then}
 use Rattle.ranges.proofs.Outside.{outside-le}
 use Rattle.loading.specs.Private.Aboard as Aboard
 use Rattle.loading.specs.Private.Aboard.{_with_, ofItem, ofTank, altogether, aboardOf, tanksAboard, ItemsFit, TanksWhole, TanksTried}
-use Rattle.loading.specs.Private.Afloat.{Floats, RowsWhole, RowsUsable, RowsTried}
+use Rattle.loading.specs.Private.Afloat.{Floats, RowsWhole, RowsUsable, RowsTried, Within}
 use Rattle.loading.specs.Condition.{tanksFrom, floats, conditionOf}
 use Rattle.ranges.specs.Sizes.{wholeRecords}
 use Rattle.loading.specs.Load.{Load, weight}
@@ -37,7 +37,7 @@ use Rattle.loading.specs.Paper.{paperRules}
 use Rattle.loading.specs.Records.{itemsOf, tanksOf, loadOf}
 use Rattle.loading.specs.Stability.{kmAt}
 use Rattle.loading.specs.Private.Steady.{conditionWith, floatsWith, afterItems, Loadable}
-use Rattle.loading.specs.Table.{Table, Within, tableOf, lastRow, draftOf}
+use Rattle.loading.specs.Table.{Table, tableOf, lastRow, draftOf}
 use Rattle.loading.specs.declared.Aboard.{Aboard}
 use Rattle.loading.specs.declared.Condition.{Condition}
 use Rattle.loading.specs.declared.floating.Floating.{Floating}

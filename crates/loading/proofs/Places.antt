@@ -11,7 +11,8 @@ use borrow.Author.Tests.{ltb-true, ltb-false, eqb-true, eqb-false}
 use lib.Dec.{eqb, ltb}
 use Rattle.arithmetic.specs.Choice.{if_then_else_}
 use Rattle.hydrostatics.specs.declared.Row.{Row}
-use Rattle.loading.specs.Table.{Table, lastFrom, Within, Place, on, between, placeFrom, placeOf}
+use Rattle.loading.specs.Private.Afloat.{Within}
+use Rattle.loading.specs.Table.{Table, lastFrom, Place, on, between, placeFrom, placeOf}
 
 -- W falls at this place among the rows from r on
 pub data Falls (W : ℕ) : Row → List Row → Place → Type 0 where

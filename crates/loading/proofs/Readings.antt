@@ -13,14 +13,12 @@ use Rattle.arithmetic.specs.Choice.{if_then_else_}
 use Rattle.arithmetic.proofs.Choice.{chosen}
 use Rattle.arithmetic.proofs.Rounding.{down-of}
 use Rattle.hydrostatics.specs.declared.Row.{Row}
-use Rattle.loading.specs.Demand.{Demand3}
 use Rattle.loading.specs.Load.{Tank, Load, weight, LoweredTank}
 use Rattle.loading.specs.Paper.{onLine, straightLine, slack, rectangleParts, rectangle, paperRules}
 use Rattle.loading.specs.Stability.{km, unroundedGM}
-use Rattle.loading.specs.Straight.{Usable}
 use Rattle.loading.specs.Table.{Table, Place, placeOf, on, between}
-use Rattle.loading.proofs.Demand.{demand-3}
-use Rattle.loading.proofs.Laws.{SoundReading, SoundSurface, Sound}
+use Rattle.loading.proofs.Demand.{Demand3, demand-3}
+use Rattle.loading.proofs.Laws.{SoundReading, SoundSurface, Sound, Usable}
 use Rattle.loading.proofs.Places.{Stands}
 
 span-some : (W : ℕ) (p : Place) → Stands W p → 0 < onLine p W .bottom

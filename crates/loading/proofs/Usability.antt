@@ -30,7 +30,7 @@ use Rattle.ranges.proofs.Facts.{within-whole}
 use Rattle.ranges.proofs.Outcomes.{was-passed, answered-then}
 use Rattle.hydrostatics.proofs.InRows.{RowInRange, row-in-range}
 use Rattle.loading.specs.Private.Afloat.{RowsWhole, RowsUsable}
-use Rattle.loading.specs.Straight.{Waterlines, last, next, Usable}
+use Rattle.loading.proofs.Laws.{Waterlines, last, next, Usable}
 use Rattle.loading.specs.Table.{tableOf, rowsFrom}
 use Rattle.loading.proofs.Walks.{take-seven}
 

@@ -11,21 +11,21 @@ use Rattle.ranges.specs.Fields.{item, tank}
 use Rattle.ranges.specs.Outcome.{Outcome, answered, refused, andThen}
 use Rattle.ranges.specs.Outside.{firstOutside}
 use Rattle.ranges.specs.Refusals.{outOfRange, wrongSize, tooLight, tooHeavy, contentsAboveCapacity, placeOfItems, placeOfTanks, itemTable, tankTable, rowTable}
-use Rattle.ranges.specs.Sizes.{wholeRecords, mostItems, mostTanks}
+use Rattle.ranges.specs.Sizes.{wholeRecords, itemWidth, tankWidth, rowWidth, mostItems, mostTanks, leastRows, mostRows}
 use Rattle.loading.specs.Load.{Load, weight, verticalMoment, transverseMoment}
 use Rattle.loading.specs.Paper.{paperRules}
 use Rattle.loading.specs.Records.{loadOf}
 use Rattle.loading.specs.Stability.{draft, lcg, freeSurface, km, gm, heelOf, passes}
-use Rattle.loading.specs.Table.{Table, tableOf, lastRow}
+use Rattle.loading.specs.Table.{Table, hull, lastRow}
 use Rattle.loading.specs.declared.Condition.{Condition}
 
 -- "tanks (one tank's eight numbers for 4, then 13)": from place `place` of the table on
 unfoldable pub tanksFrom : ℕ → List ℤ → Outcome ℕ
 tanksFrom place (contents ∷ capacity ∷ x ∷ y ∷ z ∷ length ∷ breadth ∷ density ∷ rest) =
     let outside = firstOutside tank (contents ∷ capacity ∷ x ∷ y ∷ z ∷ length ∷ breadth ∷ density ∷ []) in
-    if ltb outside 8 then refused outOfRange (placeOfTanks + (place + outside))
+    if ltb outside tankWidth then refused outOfRange (placeOfTanks + (place + outside))
     else if ltb (natAbs capacity) (natAbs contents) then refused contentsAboveCapacity (placeOfTanks + place)
-    else tanksFrom (place + 8) rest
+    else tanksFrom (place + tankWidth) rest
 tanksFrom place (contents ∷ capacity ∷ x ∷ y ∷ z ∷ length ∷ breadth ∷ []) = answered place
 tanksFrom place (contents ∷ capacity ∷ x ∷ y ∷ z ∷ length ∷ []) = answered place
 tanksFrom place (contents ∷ capacity ∷ x ∷ y ∷ z ∷ []) = answered place
@@ -60,11 +60,11 @@ floats t l =
 -- "Condition: 7 (items, tanks, then rows: 2 to 19 whole rows), 10, items, tanks, 11, 12"
 unfoldable pub conditionOf : List ℤ → List ℤ → List ℕ → Outcome Condition
 conditionOf items tanks rows =
-    let count = length rows / 7 in
+    let count = length rows / rowWidth in
     let badItem = firstOutside item items in
-    if not (wholeRecords (length item) mostItems (length items)) then refused wrongSize itemTable
-    else if not (wholeRecords (length tank) mostTanks (length tanks)) then refused wrongSize tankTable
-    else if not (wholeRecords 7 19 (length rows) && leb 2 count) then refused wrongSize rowTable
+    if not (wholeRecords itemWidth mostItems (length items)) then refused wrongSize itemTable
+    else if not (wholeRecords tankWidth mostTanks (length tanks)) then refused wrongSize tankTable
+    else if not (wholeRecords rowWidth mostRows (length rows) && leb leastRows count) then refused wrongSize rowTable
     else andThen (usableUpTo rows count) (λ good.
     if ltb badItem (length items) then refused outOfRange (placeOfItems + badItem)
-    else andThen (tanksFrom 0 tanks) (λ last. floats (tableOf rows count) (loadOf items tanks)))
+    else andThen (tanksFrom 0 tanks) (λ last. floats (hull rows) (loadOf items tanks)))

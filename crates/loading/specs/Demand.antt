@@ -1,19 +1,31 @@
--- Demand 3: "Heavier never floats higher; equal weights float alike; lowering weights, or shrinking a tank's surface, never lowers GM
--- nor turns a pass into a fail; GM is never above the unrounded GM and less than 3 mm below it."
+-- The words of demand 3, of the lent tables and of what is answered for them: "Take an answered condition and only lower items or tanks, or reduce a tank's
+-- length, breadth or liquid density, each staying in its range. GM does not fall, and a condition that passed still passes."
 use mathlib.Core.Path.{_≡_}
-use Prim.Native.Nat.{_≤_}
+use mathlib.Core.List.{List}
+use lib.Dec.{T}
+use lib.IntN.{ℤ}
+use lib.ListN.{length}
 use lib.Signed.{_≤ℤ_}
-use Rattle.loading.specs.Fraction.{LessThanThreeBelow}
-use Rattle.loading.specs.Load.{Load, weight, Lowered}
-use Rattle.loading.specs.Rules.{Rules}
-use Rattle.loading.specs.Stability.{draft, km, gm, unroundedGM, Passes}
-use Rattle.loading.specs.Straight.{Greatest}
-use Rattle.loading.specs.Table.{Table, Within}
+use Rattle.ranges.specs.Fields.{item, tank}
+use Rattle.ranges.specs.Outside.{firstOutside}
+use Rattle.loading.specs.Load.{Lowered}
+use Rattle.loading.specs.Records.{loadOf}
+use Rattle.loading.specs.declared.Condition.{Condition}
 
-pub record Demand3 (rules : Rules) (t : Table) : Type 0 where
-  pub draft-is-greatest : (l : Load) → Within t (weight l) → Greatest t (weight l) (draft t l)
-  pub heavier-never-floats-higher : (k l : Load) → Within t (weight k) → Within t (weight l) → weight k ≤ weight l → draft t k ≤ draft t l
-  pub equal-weights-float-alike : (k l : Load) → weight k ≡ weight l → (draft t k ≡ draft t l) × (km rules t k ≡ km rules t l)
-  pub lowering-never-lowers-gm : (k l : Load) → Within t (weight l) → Lowered k l → gm rules t l ≤ℤ gm rules t k
-  pub lowering-keeps-a-pass : (k l : Load) → Within t (weight l) → Lowered k l → Passes rules t l → Passes rules t k
-  pub gm-is-close : (l : Load) → Within t (weight l) → LessThanThreeBelow (gm rules t l) (unroundedGM rules t l)
+-- items′ and tanks′ are the tables items and tanks, lowered
+pub record LoweredTables (items′ tanks′ items tanks : List ℤ) : Type 0 where
+  pub items-as-long : length items′ ≡ length items
+  pub tanks-as-long : length tanks′ ≡ length tanks
+  pub items-in-range : firstOutside item items′ ≡ length items′
+  pub tanks-in-range : firstOutside tank tanks′ ≡ length tanks′
+  pub lowered : Lowered (loadOf items′ tanks′) (loadOf items tanks)
+
+-- what a lowered load's condition d is beside c, the condition before
+pub record NoWorse (d c : Condition) : Type 0 where
+  pub weight : d .weight ≡ c .weight
+  pub draft : d .draft ≡ c .draft
+  pub km : d .km ≡ c .km
+  pub lcg : d .lcg ≡ c .lcg
+  pub transverse-moment : d .«transverse_moment» ≡ c .«transverse_moment»
+  pub gm : c .gm ≤ℤ d .gm
+  pub pass : T (c .passes) → T (d .passes)

@@ -1,21 +1,10 @@
 -- The straight-line displacement between rows, and the greatest draft that a weight bears: the words of demand 3's first sentence.
-use mathlib.Core.Path.{_≡_}
 use mathlib.Core.List.{List, [], _∷_}
-use Prim.Native.Nat.{ℕ, _+_, _*_, _≤_, _<_}
+use Prim.Native.Nat.{ℕ, _*_, _≤_}
 use lib.Dec.{ltb}
 use Rattle.arithmetic.specs.Choice.{if_then_else_}
 use Rattle.hydrostatics.specs.declared.Row.{Row}
 use Rattle.loading.specs.Table.{Table, spacing, lastRow, line}
-
--- From waterline k on, each row's draft is d·k, and displacements rise strictly.
-pub data Waterlines (d : ℕ) : ℕ → Row → List Row → Type 0 where
-  last : {k : ℕ} {r : Row} → r .draft ≡ d * k → Waterlines d k r []
-  next : {k : ℕ} {r s : Row} {rest : List Row} → r .draft ≡ d * k → r .displacement < s .displacement → Waterlines d (k + 1) s rest → Waterlines d k r (s ∷ rest)
-
-pub record Usable (t : Table) : Type 0 where
-  pub afloat : 0 < t .first .displacement
-  pub spaced : 0 < spacing t
-  pub waterlines : Waterlines (spacing t) 2 (t .first) (t .rest)
 
 -- The straight-line displacement at draft z, times d.
 unfoldable pub straightFrom : ℕ → Row → List Row → ℕ → ℕ

@@ -1,10 +1,12 @@
 -- The rows of a hull, where a weight falls among them, and the draft there. Their laws: `Places` and `Drafts` of proofs/.
 use mathlib.Core.List.{List, [], _∷_}
-use Prim.Native.Nat.{ℕ, zero, suc, _+_, _-_, _*_, _/_, _≤_}
+use Prim.Native.Nat.{ℕ, zero, suc, _+_, _-_, _*_, _/_}
 use lib.Dec.{eqb, ltb}
+use lib.ListN.{length}
 use Rattle.arithmetic.specs.Choice.{if_then_else_}
 use Rattle.hydrostatics.specs.Usable.{rowIn}
 use Rattle.hydrostatics.specs.declared.Row.{Row}
+use Rattle.ranges.specs.Sizes.{rowWidth}
 
 pub record Table : Type 0 where
   pub first : Row
@@ -18,6 +20,10 @@ rowsFrom numbers from (suc count) = rowIn numbers from ∷ rowsFrom numbers (fro
 abbrev pub tableOf : List ℕ → ℕ → Table
 tableOf numbers count = record { first = rowIn numbers 0; rest = rowsFrom numbers 1 (count - 1) }
 
+-- the table of a whole lent list
+abbrev pub hull : List ℕ → Table
+hull rows = tableOf rows (length rows / rowWidth)
+
 -- "Here d is half of row 0's draft."
 abbrev pub spacing : Table → ℕ
 spacing t = t .first .draft / 2
@@ -28,11 +34,6 @@ lastFrom r (s ∷ rest) = lastFrom s rest
 
 abbrev pub lastRow : Table → Row
 lastRow t = lastFrom (t .first) (t .rest)
-
--- neither refusal 11 nor 12
-pub record Within (t : Table) (W : ℕ) : Type 0 where
-  pub least : t .first .displacement ≤ W
-  pub most : W ≤ lastRow t .displacement
 
 -- Where a weight falls: on a row, being its own weight, or between two rows.
 pub data Place : Type 0 where

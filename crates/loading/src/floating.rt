@@ -2,8 +2,8 @@
 ghost use mathlib.Core.Path.{_≡_};
 ghost use Prim.Native.Nat.{_+_, _*_, _-_, _/_, _<_, _≤_};
 ghost use Rattle.hydrostatics.specs.Usable.{rowIn};
-ghost use Rattle.loading.specs.Private.Afloat.{RowsUsable, RowBelow, OnLine, Floats};
-ghost use Rattle.loading.specs.Table.{Within, tableOf, line};
+ghost use Rattle.loading.specs.Private.Afloat.{RowsUsable, RowBelow, OnLine, Floats, Within};
+ghost use Rattle.loading.specs.Table.{tableOf, line};
 use crate::rows;
 
 // A draft and the KM at it, mm.

@@ -2,7 +2,8 @@
 use mathlib.Core.Path.{_≡_, refl, sym, ap, _∙_}
 use native.Mathlib.Omega.{arith}
 use Rattle.loading.specs.Promise.{paper}
-use Rattle.loading.specs.Table.{Within, tableOf}
+use Rattle.loading.specs.Private.Afloat.{Within}
+use Rattle.loading.specs.Table.{tableOf}
 use Rattle.loading.proofs.Order.{too-light, too-heavy, within-table, floats-there}
 use Rattle.loading.proofs.Usability.{usable-at}
 use borrow.Author.Needs.{needs}

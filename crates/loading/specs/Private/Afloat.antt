@@ -11,7 +11,7 @@ use Rattle.ranges.specs.Outcome.{answered, refused}
 use Rattle.ranges.specs.Refusals.{rowsNotUsable}
 use Rattle.loading.specs.Paper.{paperRules}
 use Rattle.loading.specs.Stability.{kmAt}
-use Rattle.loading.specs.Table.{Within, tableOf, placeOf, placeFrom, rowsFrom, draftOf, line}
+use Rattle.loading.specs.Table.{Table, lastRow, tableOf, placeOf, placeFrom, rowsFrom, draftOf, line}
 use Rattle.loading.specs.declared.floating.Floating.{Floating}
 
 -- "2 to 19 whole rows"
@@ -27,6 +27,11 @@ pub record RowsUsable (rows : List ℕ) (count : ℕ) : Type 0 where
 -- the first row that is not usable, or the count
 pub record RowsTried (rows : List ℕ) (count bad : ℕ) : Type 0 where
   pub is : usableUpTo rows count ≡ (if ltb bad count then refused rowsNotUsable bad else answered count)
+
+-- neither refusal 11 nor 12
+pub record Within (t : Table) (W : ℕ) : Type 0 where
+  pub least : t .first .displacement ≤ W
+  pub most : W ≤ lastRow t .displacement
 
 -- heights of a KM at most, a at lo and b at hi, and a weight between the two
 pub record OnLine (a b lo hi w : ℕ) : Type 0 where
