@@ -93,13 +93,16 @@ lowering-never-costs-the-answer rows {items′} {tanks′} {items} {tanks} {c} e
     let k = loadOf items′ tanks′ in
     let l = loadOf items tanks in
     let same = lower-weight k l (low .lowered) in
-    let floats = equal-weights-float-alike after before in
-    (d, again, record {
-      weight = rw (is before) same;
-      draft = floats (rw (is before) same) .0;
-      km = floats (rw (is before) same) .1;
-      lcg = rw (is before) (ap₂ _/_ (lower-longitudinal k l (low .lowered)) same);
-      transverse-moment = rw (is before) (lower-transverse k l (low .lowered));
-      gm = lowering-never-lowers-gm after before (low .lowered);
-      pass = lowering-keeps-a-pass after before (low .lowered);
-    })
+    let floats = equal-weights-float-alike after before in (
+      d,
+      again,
+      record {
+        weight = rw (is before) same;
+        draft = floats (rw (is before) same) .0;
+        km = floats (rw (is before) same) .1;
+        lcg = rw (is before) (ap₂ _/_ (lower-longitudinal k l (low .lowered)) same);
+        transverse-moment = rw (is before) (lower-transverse k l (low .lowered));
+        gm = lowering-never-lowers-gm after before (low .lowered);
+        pass = lowering-keeps-a-pass after before (low .lowered);
+      },
+    )

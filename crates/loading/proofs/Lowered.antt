@@ -37,10 +37,10 @@ eight-inside : (table : List ℤ) (i : ℕ) → i % tankWidth ≡ 0 → i + tank
 eight-inside table i start there inside =
     let eight = eightAt table i in
     let at : (k : ℕ) → k < tankWidth → within (getD tank (k % tankWidth) (1 to 0)) (getD eight k (pos 0)) ≡ true = λ k l.
-        let field : (i + k) % tankWidth ≡ k % tankWidth = omega arith in
-        let number : getD table (i + k) (pos 0) ≡ getD eight k (pos 0) =
-            sym (getD-drop i table k (pos 0)) ∙ sym (getD-take (i + tankWidth - i) (drop i table) k (pos 0) (omega arith)) ∙ ap (λ t. getD t k (pos 0)) (part-eight table i there) in
-        rw (field, number) at (all-within tank table inside (i + k) (omega arith)) in
+    let field : (i + k) % tankWidth ≡ k % tankWidth = omega arith in
+    let number : getD table (i + k) (pos 0) ≡ getD eight k (pos 0) =
+    sym (getD-drop i table k (pos 0)) ∙ sym (getD-take (i + tankWidth - i) (drop i table) k (pos 0) (omega arith)) ∙ ap (λ t. getD t k (pos 0)) (part-eight table i there) in
+    rw (field, number) at (all-within tank table inside (i + k) (omega arith)) in
     omega (arith, all-inside tank eight at)
 
 -- the tank at a place passed, and so the tanks after it
@@ -63,7 +63,7 @@ module _ (lower table : List ℤ) (as-long : length lower ≡ length table) (ins
   tanks-from (suc left) i start size each e =
       let here = passed-here table i (omega arith) e in
       step (rw (tanks-next lower i (omega arith), tanks-next table i (omega arith)) at each) (here .0)
-          (λ rest. tanks-from left (i + tankWidth) (omega arith) (omega arith) rest (here .1))
+      (λ rest. tanks-from left (i + tankWidth) (omega arith) (omega arith) rest (here .1))
     where
       step : Each LoweredTank (tankAt lower i ∷ tanksOf (drop (i + tankWidth) lower)) (tankAt table i ∷ tanksOf (drop (i + tankWidth) table))
           → sizeAt table i ≤ sizeAt table (i + 1)

@@ -9,6 +9,7 @@ pub mod Rules
 pub mod Stability
 pub mod Paper
 pub mod Demand
+pub mod Figures
 pub mod Condition
 pub mod Promise
 pub mod Private

@@ -5,4 +5,3 @@ pub mod Front
 pub mod Exact
 pub mod Moments
 pub mod Running
-pub mod Figures

@@ -2,5 +2,4 @@
 pub mod Multipliers
 pub mod Curve
 pub mod Cubic
-pub mod Figures
 pub mod Private
