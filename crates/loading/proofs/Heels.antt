@@ -16,7 +16,7 @@ use Rattle.arithmetic.specs.Choice.{if_then_else_}
 use Rattle.arithmetic.specs.Signed.{isNegative}
 use Rattle.arithmetic.proofs.Choice.{chosen}
 use Rattle.arithmetic.proofs.Tests.{never}
-use Rattle.loading.specs.Stability.{heelLimit, leastGM, tangent, heelOf, stands}
+use Rattle.loading.specs.Stability.{heelLimit, tenThousandths, leastGM, tangent, heelOf, stands}
 use Rattle.loading.specs.Private.Steady.{aboveZero, passesWith}
 use Rattle.loading.specs.declared.Heel.{Heel}
 use Rattle.loading.specs.declared.Heel.the-variants.{Unstable, Upright, Heeled, Beyond}
@@ -56,11 +56,11 @@ module _ (W g m : ℕ) (gm my : ℤ) (p : g ≡ aboveZero gm) where
     upright b = rw (gm-is, ← q, eq-eqb m 0 b, stable) (simp chosen)
 
     module _ (b : m ≡ 0 → ⊥) where
-      pub heeled : 10_000 * m ≤ heelLimit * (W * g) → Heeled (tangent W (pos g) my) ≡ heelOf W gm my
+      pub heeled : tenThousandths * m ≤ heelLimit * (W * g) → Heeled (tangent W (pos g) my) ≡ heelOf W gm my
       unfolding heelOf
       heeled h = rw (gm-is, ← q, ne-eqb m 0 b, stable, mul-assoc heelLimit W g, le-leb _ _ h) (simp chosen)
 
-      pub beyond : heelLimit * (W * g) < 10_000 * m → Beyond ≡ heelOf W gm my
+      pub beyond : heelLimit * (W * g) < tenThousandths * m → Beyond ≡ heelOf W gm my
       unfolding heelOf
       beyond h = rw (gm-is, ← q, ne-eqb m 0 b, stable, mul-assoc heelLimit W g, lt-leb _ _ h) (simp chosen)
 

@@ -15,7 +15,7 @@ use lib.IntN.{ℤ, pos, negsuc, natAbs, _+ℤ_, _*ℤ_}
 use lib.Signed.{_≤ℤ_}
 use Rattle.arithmetic.specs.Choice.{if_then_else_}
 use Rattle.loading.specs.Load.{Load, weight, longitudinalMoment, verticalMoment, transverseMoment, Lowered}
-use Rattle.loading.specs.Stability.{leastGM, heelLimit, heelOf, stands, passes, tangent}
+use Rattle.loading.specs.Stability.{leastGM, heelLimit, tenThousandths, heelOf, stands, passes, tangent}
 use Rattle.loading.specs.declared.Heel.the-variants.{Unstable, Upright, Heeled, Beyond}
 use Rattle.loading.proofs.Totals.{total-same, totalℤ-same, total-mono}
 
@@ -72,25 +72,25 @@ module _ (W : ℕ) (gm my : ℤ) where
   stands-in false false false e k = k
 
 -- no less than the least GM, and no more heel than the limit
-pub pass-is : (W n : ℕ) (my : ℤ) → T (passes W (pos n) my) ↔ ((leastGM ≤ n) × (10_000 * natAbs my ≤ heelLimit * W * n))
+pub pass-is : (W n : ℕ) (my : ℤ) → T (passes W (pos n) my) ↔ ((leastGM ≤ n) × (tenThousandths * natAbs my ≤ heelLimit * W * n))
 unfolding passes heelOf
 pass-is W n my =
     let unstable = leb n 0 in
     let upright = eqb (natAbs my) 0 in
-    let heeled = leb (10_000 * natAbs my) (heelLimit * W * n) in (
+    let heeled = leb (tenThousandths * natAbs my) (heelLimit * W * n) in (
       λ p.
           let q = and-out (leb leastGM n) _ p in (
             leb→le leastGM n (q .0),
             stands-out W (pos n) my unstable upright heeled
                 (λ o. omega (arith, eqb→eq (natAbs my) 0 o))
-                (λ h. leb→le (10_000 * natAbs my) (heelLimit * W * n) h)
+                (λ h. leb→le (tenThousandths * natAbs my) (heelLimit * W * n) h)
                 (q .1),
           ),
       λ p.
           and-in (leb leastGM n) _ (le→leb leastGM n (p .0))
           (stands-in W (pos n) my unstable upright heeled
           (λ u. omega (arith, leb→le n 0 u))
-          (le→leb (10_000 * natAbs my) (heelLimit * W * n) (p .1))),
+          (le→leb (tenThousandths * natAbs my) (heelLimit * W * n) (p .1))),
     )
 
 pub pass-mono : (W : ℕ) (my g h : ℤ) → g ≤ℤ h → T (passes W g my) → T (passes W h my)

@@ -8,16 +8,17 @@ use mathlib.Core.List.{List, [], _∷_}
 use lib.IntN.{ℤ}
 use lib.ListN.{length}
 use Rattle.ranges.proofs.Numbered.{Numbered, numbered}
+use Rattle.ranges.specs.Sizes.{tankWidth, rowWidth}
 use Rattle.hydrostatics.proofs.Numbered.{usable-numbered}
 use Rattle.loading.specs.Condition.{tanksFrom, floats, conditionOf}
 use Rattle.loading.specs.Load.{Load}
 use Rattle.loading.specs.Records.{loadOf}
-use Rattle.loading.specs.Table.{Table, tableOf}
+use Rattle.loading.specs.Table.{Table, hull}
 
 pub tanks-numbered : (place : ℕ) (tanks : List ℤ) → Numbered (tanksFrom place tanks)
 unfolding tanksFrom
 tanks-numbered place (contents ∷ capacity ∷ x ∷ y ∷ z ∷ length ∷ breadth ∷ density ∷ rest) =
-    let further = tanks-numbered (place + 8) rest in search numbered
+    let further = tanks-numbered (place + tankWidth) rest in search numbered
 tanks-numbered place (contents ∷ capacity ∷ x ∷ y ∷ z ∷ length ∷ breadth ∷ []) = search numbered
 tanks-numbered place (contents ∷ capacity ∷ x ∷ y ∷ z ∷ length ∷ []) = search numbered
 tanks-numbered place (contents ∷ capacity ∷ x ∷ y ∷ z ∷ []) = search numbered
@@ -34,7 +35,7 @@ floats-numbered t l = search numbered
 pub condition-numbered : (items tanks : List ℤ) (rows : List ℕ) → Numbered (conditionOf items tanks rows)
 unfolding conditionOf
 condition-numbered items tanks rows =
-    let usable = usable-numbered rows (length rows / 7) in
+    let usable = usable-numbered rows (length rows / rowWidth) in
     let tanks-are = tanks-numbered 0 tanks in
-    let afloat = floats-numbered (tableOf rows (length rows / 7)) (loadOf items tanks) in
+    let afloat = floats-numbered (hull rows) (loadOf items tanks) in
     search numbered depth 10

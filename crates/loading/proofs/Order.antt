@@ -22,7 +22,7 @@ use Rattle.hydrostatics.specs.Usable.{rowIn, usableUpTo}
 use Rattle.ranges.specs.Fields.{item}
 use Rattle.ranges.specs.Outcome.{Outcome, answered, refused, andThen}
 use Rattle.ranges.specs.Outside.{firstOutside}
-use Rattle.ranges.specs.Refusals.{outOfRange, wrongSize, rowsNotUsable, tooLight, tooHeavy}
+use Rattle.ranges.specs.Refusals.{outOfRange, wrongSize, rowsNotUsable, tooLight, tooHeavy, placeOfItems, itemTable, tankTable, rowTable}
 use Rattle.ranges.specs.declared.Refusal.{Refusal}
 use Rattle.ranges.proofs.Facts.{records-are}
 use Rattle.ranges.proofs.Outcomes.{refused-not, answered-then}
@@ -30,14 +30,14 @@ use Rattle.ranges.proofs.Outside.{outside-le}
 use Rattle.loading.specs.Private.Aboard as Aboard
 use Rattle.loading.specs.Private.Aboard.{_with_, ofItem, ofTank, altogether, aboardOf, tanksAboard, ItemsFit, TanksWhole, TanksTried}
 use Rattle.loading.specs.Private.Afloat.{Floats, RowsWhole, RowsUsable, RowsTried, Within}
-use Rattle.loading.specs.Condition.{tanksFrom, floats, conditionOf}
-use Rattle.ranges.specs.Sizes.{wholeRecords}
+use Rattle.loading.specs.Condition.{tanksFrom, floats, rowsAllowed, conditionOf}
+use Rattle.ranges.specs.Sizes.{wholeRecords, itemWidth, tankWidth, rowWidth, mostItems, mostTanks, leastRows, mostRows}
 use Rattle.loading.specs.Load.{Load, weight}
 use Rattle.loading.specs.Paper.{paperRules}
 use Rattle.loading.specs.Records.{itemsOf, tanksOf, loadOf}
 use Rattle.loading.specs.Stability.{kmAt}
 use Rattle.loading.specs.Private.Steady.{conditionWith, floatsWith, afterItems, Loadable}
-use Rattle.loading.specs.Table.{Table, tableOf, lastRow, draftOf}
+use Rattle.loading.specs.Table.{Table, tableOf, hull, lastRow, draftOf}
 use Rattle.loading.specs.declared.Aboard.{Aboard}
 use Rattle.loading.specs.declared.Condition.{Condition}
 use Rattle.loading.specs.declared.floating.Floating.{Floating}
@@ -105,63 +105,63 @@ module _ (items tanks : List ℤ) (t : Table) where
 -- ---- the sizes of the lent tables
 -- the three are right
 pub record Sized (items tanks : List ℤ) (rows : List ℕ) : Type 0 where
-  pub items-whole : wholeRecords 4 32 (length items) ≡ true
-  pub tanks-whole : wholeRecords 8 16 (length tanks) ≡ true
-  pub rows-allowed : wholeRecords 7 19 (length rows) && leb 2 (length rows / 7) ≡ true
+  pub items-whole : wholeRecords itemWidth mostItems (length items) ≡ true
+  pub tanks-whole : wholeRecords tankWidth mostTanks (length tanks) ≡ true
+  pub rows-allowed : rowsAllowed (length rows) ≡ true
 
 module _ (items tanks : List ℤ) (rows : List ℕ) where
-  pub wrong-items : wholeRecords 4 32 (length items) ≡ false → conditionOf items tanks rows ≡ refused wrongSize 1
+  pub wrong-items : wholeRecords itemWidth mostItems (length items) ≡ false → conditionOf items tanks rows ≡ refused wrongSize itemTable
   unfolding conditionOf
   wrong-items i = simp (i, chosen)
 
-  pub wrong-tanks : wholeRecords 4 32 (length items) ≡ true → wholeRecords 8 16 (length tanks) ≡ false → conditionOf items tanks rows ≡ refused wrongSize 2
+  pub wrong-tanks : wholeRecords itemWidth mostItems (length items) ≡ true → wholeRecords tankWidth mostTanks (length tanks) ≡ false → conditionOf items tanks rows ≡ refused wrongSize tankTable
   unfolding conditionOf
   wrong-tanks i k = simp (i, k, chosen)
 
-  pub wrong-rows : wholeRecords 4 32 (length items) ≡ true → wholeRecords 8 16 (length tanks) ≡ true → wholeRecords 7 19 (length rows) && leb 2 (length rows / 7) ≡ false → conditionOf items tanks rows ≡ refused wrongSize 3
+  pub wrong-rows : wholeRecords itemWidth mostItems (length items) ≡ true → wholeRecords tankWidth mostTanks (length tanks) ≡ true → rowsAllowed (length rows) ≡ false → conditionOf items tanks rows ≡ refused wrongSize rowTable
   unfolding conditionOf
   wrong-rows i k r = simp (i, k, r, chosen)
 
   module _ (sized : Sized items tanks rows) where
-    pub rows-whole : RowsWhole rows (length rows / 7)
+    pub rows-whole : RowsWhole rows (length rows / rowWidth)
     rows-whole =
-        let h = both (wholeRecords 7 19 (length rows)) (leb 2 (length rows / 7)) (sized .rows-allowed) in
-        let whole = records-are 7 19 (length rows) (h .0) in
-        record { whole = omega arith; least = leb-true 2 (length rows / 7) (h .1); most = whole .1 }
+        let h = both (wholeRecords rowWidth mostRows (length rows)) (leb leastRows (length rows / rowWidth)) (sized .rows-allowed) in
+        let whole = records-are rowWidth mostRows (length rows) (h .0) in
+        record { whole = omega arith; least = leb-true leastRows (length rows / rowWidth) (h .1); most = whole .1 }
 
     -- ---- the rows and the items
-    sizes-passed : conditionOf items tanks rows ≡ andThen (usableUpTo rows (length rows / 7)) (λ good. if ltb (firstOutside item items) (length items) then refused outOfRange (1_000 + firstOutside item items) else afterItems items tanks (tableOf rows (length rows / 7)))
+    sizes-passed : conditionOf items tanks rows ≡ andThen (usableUpTo rows (length rows / rowWidth)) (λ good. if ltb (firstOutside item items) (length items) then refused outOfRange (placeOfItems + firstOutside item items) else afterItems items tanks (hull rows))
     unfolding conditionOf afterItems
     sizes-passed = simp (sized .items-whole, sized .tanks-whole, sized .rows-allowed, chosen)
 
-    pub bad-row : {bad : ℕ} → RowsTried rows (length rows / 7) bad → bad < length rows / 7 → conditionOf items tanks rows ≡ refused rowsNotUsable bad
+    pub bad-row : {bad : ℕ} → RowsTried rows (length rows / rowWidth) bad → bad < length rows / rowWidth → conditionOf items tanks rows ≡ refused rowsNotUsable bad
     unfolding andThen
-    bad-row {bad} tried h = sizes-passed ∙ rw (tried .is, lt-ltb bad (length rows / 7) h) (simp chosen)
+    bad-row {bad} tried h = sizes-passed ∙ rw (tried .is, lt-ltb bad (length rows / rowWidth) h) (simp chosen)
 
     -- no row is bad
-    module _ {bad : ℕ} (tried : RowsTried rows (length rows / 7) bad) (last : length rows / 7 ≤ bad) where
-      usable : usableUpTo rows (length rows / 7) ≡ answered (length rows / 7)
-      usable = tried .is ∙ simp (le-ltb bad (length rows / 7) last, chosen)
+    module _ {bad : ℕ} (tried : RowsTried rows (length rows / rowWidth) bad) (last : length rows / rowWidth ≤ bad) where
+      usable : usableUpTo rows (length rows / rowWidth) ≡ answered (length rows / rowWidth)
+      usable = tried .is ∙ simp (le-ltb bad (length rows / rowWidth) last, chosen)
 
-      rows-passed : conditionOf items tanks rows ≡ (if ltb (firstOutside item items) (length items) then refused outOfRange (1_000 + firstOutside item items) else afterItems items tanks (tableOf rows (length rows / 7)))
+      rows-passed : conditionOf items tanks rows ≡ (if ltb (firstOutside item items) (length items) then refused outOfRange (placeOfItems + firstOutside item items) else afterItems items tanks (hull rows))
       unfolding andThen
       rows-passed = sizes-passed ∙ rw usable
 
       module _ {outside : ℕ} (o : outside ≡ firstOutside item items) where
-        pub bad-item : outside < length items → conditionOf items tanks rows ≡ refused outOfRange (1_000 + outside)
+        pub bad-item : outside < length items → conditionOf items tanks rows ≡ refused outOfRange (placeOfItems + outside)
         bad-item h = rows-passed ∙ rw (← o, lt-ltb outside (length items) h) (simp chosen)
 
         module _ (inside : length items ≤ outside) where
-          pub after-all : conditionOf items tanks rows ≡ afterItems items tanks (tableOf rows (length rows / 7))
+          pub after-all : conditionOf items tanks rows ≡ afterItems items tanks (hull rows)
           after-all = rows-passed ∙ rw (← o, le-ltb outside (length items) inside) (simp chosen)
 
           all-inside : firstOutside item items ≡ length items
           all-inside = omega (arith, o, outside-le item items)
 
-          pub loadable : Loadable items tanks rows (length rows / 7)
+          pub loadable : Loadable items tanks rows (length rows / rowWidth)
           loadable =
-              let i = records-are 4 32 (length items) (sized .items-whole) in
-              let k = records-are 8 16 (length tanks) (sized .tanks-whole) in
+              let i = records-are itemWidth mostItems (length items) (sized .items-whole) in
+              let k = records-are tankWidth mostTanks (length tanks) (sized .tanks-whole) in
               record {
                 items-fit = record { whole = i .0; few = omega arith; in-range = all-inside };
                 tanks-whole = record { whole = k .0; few = omega arith };

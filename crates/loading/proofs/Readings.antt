@@ -10,7 +10,6 @@ use Prim.Native.Nat.{ℕ, _-_, _*_, _≤_, _<_}
 use native.Mathlib.Nat.{mul-le-mul, pow-le-pow-left, le-refl, div-one, mul-comm}
 use native.Mathlib.Omega.{arith}
 use Rattle.arithmetic.specs.Choice.{if_then_else_}
-use Rattle.arithmetic.proofs.Choice.{chosen}
 use Rattle.arithmetic.proofs.Rounding.{down-of}
 use Rattle.hydrostatics.specs.declared.Row.{Row}
 use Rattle.loading.specs.Load.{Tank, Load, weight, LoweredTank}
@@ -20,6 +19,7 @@ use Rattle.loading.specs.Table.{Table, Place, placeOf, on, between}
 use Rattle.loading.proofs.Demand.{Demand3, demand-3}
 use Rattle.loading.proofs.Laws.{SoundReading, SoundSurface, Sound, Usable}
 use Rattle.loading.proofs.Places.{Stands}
+use Rattle.loading.proofs.Rectangles.{empty-parts}
 
 span-some : (W : ℕ) (p : Place) → Stands W p → 0 < onLine p W .bottom
 span-some W (on r) h = omega arith
@@ -27,11 +27,6 @@ span-some W (between r s) h = omega arith
 
 pub straightLine-sound : SoundReading straightLine
 straightLine-sound = record { rounds = λ W p h. down-of (onLine p W .top) (onLine p W .bottom) (span-some W p h) }
-
--- an empty tank is not slack
-empty-none : (t : Tank) → t .contents ≡ 0 → rectangleParts t ≡ 0
-unfolding rectangleParts slack
-empty-none t e = rw e (simp chosen)
 
 if-mono : (c : Bool) (a b : ℕ) → a ≤ b → (if c then a else 0) ≤ (if c then b else 0)
 unfolding if_then_else_
@@ -47,7 +42,7 @@ lowered-less s t h =
 pub rectangle-sound : SoundSurface rectangle
 rectangle-sound = record {
   unit-some = omega arith;
-  empty = empty-none;
+  empty = empty-parts;
   lowered = lowered-less;
 }
 
@@ -59,10 +54,10 @@ demand-3-of-the-paper = demand-3 paperRules paper-sound
 
 -- "each multiplied by 12,000,000,000·W·(Dk+1 − Dk), the last factor left out at a row's own weight"
 module _ (t : Table) (l : Load) where
-  pub factor-between : (r s : Row) → placeOf t (weight l) ≡ between r s → unroundedGM paperRules t l .bottom ≡ 12_000_000_000 * weight l * (s .displacement - r .displacement)
-  factor-between r s e = rw e (mul-comm (s .displacement - r .displacement) (12_000_000_000 * weight l))
+  pub factor-between : (r s : Row) → placeOf t (weight l) ≡ between r s → unroundedGM paperRules t l .bottom ≡ rectangle .unit * weight l * (s .displacement - r .displacement)
+  factor-between r s e = rw e (mul-comm (s .displacement - r .displacement) (rectangle .unit * weight l))
 
-  pub factor-on : (r : Row) → placeOf t (weight l) ≡ on r → unroundedGM paperRules t l .bottom ≡ 12_000_000_000 * weight l
+  pub factor-on : (r : Row) → placeOf t (weight l) ≡ on r → unroundedGM paperRules t l .bottom ≡ rectangle .unit * weight l
   factor-on r e = rw e (omega arith)
 
   pub km-on : (r : Row) → placeOf t (weight l) ≡ on r → km paperRules t l ≡ r .km

@@ -1,7 +1,7 @@
 -- The free surface of a rectangular tank.
---     surface-empty, surface-full      none where the tank is empty or full
---     surface-slack                    rounded up where it is slack
---     parts-most, surface-most         how large it can be
+--     empty-parts, surface-empty, surface-full      none where the tank is empty or full
+--     surface-slack                                 rounded up where it is slack
+--     parts-most, surface-most                      how large it can be
 -- Assumes nothing.
 use mathlib.Core.Path.{_≡_, sym, ap, _∙_}
 use mathlib.Core.Bool.{and-false}
@@ -13,16 +13,16 @@ use Rattle.arithmetic.specs.Choice.{if_then_else_}
 use Rattle.arithmetic.specs.Rounding.{roundedUp}
 use Rattle.arithmetic.proofs.Choice.{chosen, if-either}
 use Rattle.arithmetic.proofs.Rounding.{up-of, up-zero, up-least}
-use Rattle.loading.specs.Private.Aboard.{RoomOf}
+use Rattle.loading.specs.Private.Aboard.{RoomOf, mostSurface}
 use Rattle.loading.specs.Load.{Tank}
 use Rattle.loading.specs.Paper.{slack, rectangleParts, rectangle}
 use Rattle.loading.specs.Rules.{surfaceOf}
 
-pub parts-most : {length breadth density : ℕ} → RoomOf length breadth density → length * breadth ^ 3 * density ≤ 640_000_000 * 12_000_000_000
+pub parts-most : {length breadth density : ℕ} → RoomOf length breadth density → length * breadth ^ 3 * density ≤ mostSurface * rectangle .unit
 parts-most r = mul-le-mul (mul-le-mul (r .length-most) (pow-le-pow-left (r .breadth-most) 3)) (r .density-most)
 
 module _ (t : Tank) where
-  empty-parts : t .contents ≡ 0 → rectangleParts t ≡ 0
+  pub empty-parts : t .contents ≡ 0 → rectangleParts t ≡ 0
   unfolding rectangleParts slack
   empty-parts e = rw e (simp chosen)
 
@@ -35,7 +35,7 @@ module _ (t : Tank) where
   slack-parts n h = simp (lt-ltb 0 (t .contents) n, lt-ltb (t .contents) (t .capacity) h, chosen)
 
   none-of : rectangleParts t ≡ 0 → 0 ≡ surfaceOf rectangle t
-  none-of e = sym (ap (λ n. roundedUp n 12_000_000_000) e ∙ up-zero (up-of 0 12_000_000_000 (omega arith)))
+  none-of e = sym (ap (λ n. roundedUp n (rectangle .unit)) e ∙ up-zero (up-of 0 (rectangle .unit) (omega arith)))
 
   pub surface-empty : t .contents ≡ 0 → 0 ≡ surfaceOf rectangle t
   surface-empty e = none-of (empty-parts e)
@@ -43,12 +43,12 @@ module _ (t : Tank) where
   pub surface-full : t .capacity ≤ t .contents → 0 ≡ surfaceOf rectangle t
   surface-full h = none-of (full-parts h)
 
-  pub surface-slack : (t .contents ≡ 0 → ⊥) → t .contents < t .capacity → roundedUp (t .length * t .breadth ^ 3 * t .density) 12_000_000_000 ≡ surfaceOf rectangle t
-  surface-slack n h = ap (λ n. roundedUp n 12_000_000_000) (sym (slack-parts (omega arith) h))
+  pub surface-slack : (t .contents ≡ 0 → ⊥) → t .contents < t .capacity → roundedUp (t .length * t .breadth ^ 3 * t .density) (rectangle .unit) ≡ surfaceOf rectangle t
+  surface-slack n h = ap (λ n. roundedUp n (rectangle .unit)) (sym (slack-parts (omega arith) h))
 
-  parts-few : RoomOf (t .length) (t .breadth) (t .density) → rectangleParts t ≤ 640_000_000 * 12_000_000_000
+  parts-few : RoomOf (t .length) (t .breadth) (t .density) → rectangleParts t ≤ mostSurface * rectangle .unit
   unfolding rectangleParts
-  parts-few r = if-either (λ n. n ≤ 640_000_000 * 12_000_000_000) (slack t) (λ e. parts-most r) (λ e. omega arith)
+  parts-few r = if-either (λ n. n ≤ mostSurface * rectangle .unit) (slack t) (λ e. parts-most r) (λ e. omega arith)
 
-  pub surface-most : RoomOf (t .length) (t .breadth) (t .density) → surfaceOf rectangle t ≤ 640_000_000
-  surface-most r = up-least (up-of (rectangleParts t) 12_000_000_000 (omega arith)) 640_000_000 .1 (parts-few r)
+  pub surface-most : RoomOf (t .length) (t .breadth) (t .density) → surfaceOf rectangle t ≤ mostSurface
+  surface-most r = up-least (up-of (rectangleParts t) (rectangle .unit) (omega arith)) mostSurface .1 (parts-few r)

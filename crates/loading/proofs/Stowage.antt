@@ -18,8 +18,9 @@ use Rattle.arithmetic.proofs.Choice.{chosen}
 use Rattle.ranges.specs.Fields.{Range, _to_, most, rangeOf, item, tank}
 use Rattle.ranges.specs.Outcome.{answered, refused, andThen}
 use Rattle.ranges.specs.Outside.{firstOutside}
-use Rattle.ranges.specs.Refusals.{outOfRange, contentsAboveCapacity}
+use Rattle.ranges.specs.Refusals.{outOfRange, contentsAboveCapacity, placeOfTanks}
 use Rattle.ranges.proofs.Facts.{within-size, all-within}
+use Rattle.ranges.specs.Sizes.{itemWidth, tankWidth}
 use Rattle.loading.specs.Private.Aboard.{numberAt, sizeAt, itemAt, tankAt, Stowed, StowedItem, StowedIn, ItemsFit, RoomOf, TankFits, altogether, ofTank, tanksAboard, TrialReach, TanksTried}
 use Rattle.loading.specs.Condition.{tanksFrom}
 use Rattle.loading.specs.Records.{tanksOf}
@@ -32,11 +33,11 @@ module _ (section : List Range) (numbers : List ℤ) (inside : length numbers �
   pub field-most : (k : ℕ) → k < length numbers → sizeAt numbers k ≤ most (getD section (k % length section) (1 to 0))
   field-most k h = within-size (getD section (k % length section) (1 to 0)) (numberAt numbers k) (all-within section numbers inside k h) .1
 
-module _ (table : List ℤ) (i : ℕ) (fit : ItemsFit table) (start : i % 4 ≡ 0) (there : i < length table) where
+module _ (table : List ℤ) (i : ℕ) (fit : ItemsFit table) (start : i % itemWidth ≡ 0) (there : i < length table) where
   -- number j of the item at place i
-  item-number : (j : ℕ) → j < 4 → sizeAt table (i + j) ≤ most (getD item j (1 to 0))
+  item-number : (j : ℕ) → j < itemWidth → sizeAt table (i + j) ≤ most (getD item j (1 to 0))
   item-number j h =
-      let e : (i + j) % 4 ≡ j = omega arith in
+      let e : (i + j) % itemWidth ≡ j = omega arith in
       subst (λ f. sizeAt table (i + j) ≤ most (getD item f (1 to 0))) e (field-most item table (omega (arith, fit .in-range)) (i + j) (omega arith))
 
   pub item-stowed : StowedItem (itemAt table i)
@@ -57,22 +58,22 @@ abbrev pub eightAt : List ℤ → ℕ → List ℤ
 eightAt table i =
     numberAt table i ∷ numberAt table (i + 1) ∷ numberAt table (i + 2) ∷ numberAt table (i + 3) ∷ numberAt table (i + 4) ∷ numberAt table (i + 5) ∷ numberAt table (i + 6) ∷ numberAt table (i + 7) ∷ []
 
-module _ (table : List ℤ) (i : ℕ) (there : i + 8 ≤ length table) where
-  pub part-eight : take (i + 8 - i) (drop i table) ≡ eightAt table i
+module _ (table : List ℤ) (i : ℕ) (there : i + tankWidth ≤ length table) where
+  pub part-eight : take (i + tankWidth - i) (drop i table) ≡ eightAt table i
   part-eight =
-      let e : i + 8 - i ≡ 8 = omega arith in
+      let e : i + tankWidth - i ≡ tankWidth = omega arith in
       rw (e, drop-eight table (pos 0) i there)
 
-  pub tank-outside : firstOutside tank (eightAt table i) < 8 → tanksFrom i (drop i table) ≡ refused outOfRange (2_000 + (i + firstOutside tank (eightAt table i)))
+  pub tank-outside : firstOutside tank (eightAt table i) < tankWidth → tanksFrom i (drop i table) ≡ refused outOfRange (placeOfTanks + (i + firstOutside tank (eightAt table i)))
   unfolding tanksFrom
   tank-outside h = rw (drop-eight table (pos 0) i there, lt-ltb _ _ h) (simp chosen)
 
-  module _ (inside : 8 ≤ firstOutside tank (eightAt table i)) where
-    pub tank-overfull : sizeAt table (i + 1) < sizeAt table i → tanksFrom i (drop i table) ≡ refused contentsAboveCapacity (2_000 + i)
+  module _ (inside : tankWidth ≤ firstOutside tank (eightAt table i)) where
+    pub tank-overfull : sizeAt table (i + 1) < sizeAt table i → tanksFrom i (drop i table) ≡ refused contentsAboveCapacity (placeOfTanks + i)
     unfolding tanksFrom
     tank-overfull h = rw (drop-eight table (pos 0) i there, le-ltb _ _ inside, lt-ltb _ _ h) (simp chosen)
 
-    pub tank-passed : sizeAt table i ≤ sizeAt table (i + 1) → tanksFrom i (drop i table) ≡ tanksFrom (i + 8) (drop (i + 8) table)
+    pub tank-passed : sizeAt table i ≤ sizeAt table (i + 1) → tanksFrom i (drop i table) ≡ tanksFrom (i + tankWidth) (drop (i + tankWidth) table)
     unfolding tanksFrom
     tank-passed h = rw (drop-eight table (pos 0) i there, le-ltb _ _ inside, le-ltb _ _ h) (simp chosen)
 

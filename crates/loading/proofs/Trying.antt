@@ -1,5 +1,5 @@
 -- The tests of a row, one by one, and of a table row by row.
---     spaced-odd, -narrow, -wide, -by              the distance between waterlines
+--     spaced-odd, -outside, -by                    the distance between waterlines
 --     rises-first, rises-by                        the displacement
 --     unusable-range, -spacing, -rise, usable-by   the row
 --     rows-none, rows-on, tried-bad, tried-all     the table
@@ -12,52 +12,38 @@ use native.Mathlib.Nat.{le-refl}
 use native.Mathlib.Numerals.{add-one}
 use native.Mathlib.Decide.{decLt}
 use native.Mathlib.Omega.{arith}
-use borrow.Author.Tests.{eq-eqb, ne-eqb, le-leb, lt-leb, lt-ltb, le-ltb}
-use lib.Dec.{leb, ltb, eqb}
+use borrow.Author.Tests.{eq-eqb, ne-eqb, lt-ltb, le-ltb}
+use lib.Dec.{ltb, eqb}
 use lib.IntN.{pos}
 use lib.ListN.{length}
 use Rattle.arithmetic.specs.Choice.{if_then_else_}
 use Rattle.arithmetic.proofs.Choice.{chosen}
-use Rattle.hydrostatics.specs.Row.{numbersOf}
+use Rattle.hydrostatics.specs.Row.{numbersOf, waterlineOf}
 use Rattle.hydrostatics.specs.Usable.{rowIn, inRange, spaced, rises, metacentreFits, usableRow, usableUpTo}
 use Rattle.hydrostatics.specs.declared.Row.{Row}
-use Rattle.ranges.specs.Fields.{_to_, within, rowRanges}
+use Rattle.ranges.specs.Fields.{within, rangeOf, rowRanges}
 use Rattle.ranges.specs.Outcome.{answered, refused, andThen}
 use Rattle.ranges.specs.Outside.{firstOutside}
 use Rattle.ranges.specs.Refusals.{rowsNotUsable}
-use Rattle.ranges.proofs.Facts.{whole-within}
+use Rattle.ranges.specs.Sizes.{rowWidth}
 use Rattle.hydrostatics.proofs.InRows.{row-in-range}
-use Rattle.loading.specs.Private.Afloat.{RowsTried}
+use Rattle.loading.specs.Private.Afloat.{mostInRow, RowsTried}
 use Rattle.loading.proofs.Usability.{seven-are}
 
 -- ---- the distance between waterlines, where `first` is row 0's draft
-narrow : (g : ℕ) → g < 10 → within (10 to 500) (pos g) ≡ false
-unfolding within
-narrow g h = rw (lt-leb 10 g h)
-
-wide : (g : ℕ) → 10 ≤ g → 500 < g → within (10 to 500) (pos g) ≡ false
-unfolding within
-wide g h k = rw (le-leb 10 g h, lt-leb g 500 k)
-
 module _ (rows : List ℕ) (r : ℕ) {first : ℕ} (e : first ≡ rowIn rows 0 .draft) where
   pub spaced-odd : (2 * (first / 2) ≡ first → ⊥) → spaced rows r ≡ false
   unfolding spaced
   spaced-odd n = rw (← e, ne-eqb (2 * (first / 2)) first n)
 
   module _ (even : 2 * (first / 2) ≡ first) where
-    spaced-outside : within (10 to 500) (pos (first / 2)) ≡ false → spaced rows r ≡ false
+    pub spaced-outside : within (rangeOf 3) (pos (first / 2)) ≡ false → spaced rows r ≡ false
     unfolding spaced
     spaced-outside w = rw (← e, eq-eqb (2 * (first / 2)) first even, w)
 
-    pub spaced-narrow : first / 2 < 10 → spaced rows r ≡ false
-    spaced-narrow h = spaced-outside (narrow (first / 2) h)
-
-    pub spaced-wide : 10 ≤ first / 2 → 500 < first / 2 → spaced rows r ≡ false
-    spaced-wide h k = spaced-outside (wide (first / 2) h k)
-
-    pub spaced-by : {draft : ℕ} → draft ≡ rowIn rows r .draft → 10 ≤ first / 2 → first / 2 ≤ 500 → spaced rows r ≡ eqb draft ((r + 2) * (first / 2))
+    pub spaced-by : {draft : ℕ} → draft ≡ rowIn rows r .draft → within (rangeOf 3) (pos (first / 2)) ≡ true → spaced rows r ≡ eqb draft (waterlineOf r * (first / 2))
     unfolding spaced
-    spaced-by d h k = rw (← e, ← d, eq-eqb (2 * (first / 2)) first even, whole-within 10 500 (first / 2) (h, k))
+    spaced-by d w = rw (← e, ← d, eq-eqb (2 * (first / 2)) first even, w)
 
 -- ---- the displacement
 module _ (rows : List ℕ) where
@@ -73,19 +59,19 @@ module _ (rows : List ℕ) where
       sym (ap₂ ltb (e ∙ ap (λ k. rowIn rows k .displacement) m) f)
 
 -- ---- the row
-module _ (rows : List ℕ) (r : ℕ) (whole : 7 * r + 7 ≤ length rows) {row : Row} (here : row ≡ rowIn rows r) where
-  range-is : inRange rows r ≡ eqb (firstOutside rowRanges (map pos (numbersOf row))) 7
+module _ (rows : List ℕ) (r : ℕ) (whole : rowWidth * r + rowWidth ≤ length rows) {row : Row} (here : row ≡ rowIn rows r) where
+  range-is : inRange rows r ≡ eqb (firstOutside rowRanges (map pos (numbersOf row))) rowWidth
   unfolding inRange
-  range-is = ap (λ l. eqb (firstOutside rowRanges (map pos l)) 7) (seven-are rows r whole ∙ ap numbersOf (sym here))
+  range-is = ap (λ l. eqb (firstOutside rowRanges (map pos l)) rowWidth) (seven-are rows r whole ∙ ap numbersOf (sym here))
 
   module _ {outside : ℕ} (o : outside ≡ firstOutside rowRanges (map pos (numbersOf row))) where
-    pub unusable-range : (outside ≡ 7 → ⊥) → usableRow rows r ≡ false
+    pub unusable-range : (outside ≡ rowWidth → ⊥) → usableRow rows r ≡ false
     unfolding usableRow
-    unusable-range n = rw (range-is, ← o, ne-eqb outside 7 n)
+    unusable-range n = rw (range-is, ← o, ne-eqb outside rowWidth n)
 
-    module _ (inside-all : outside ≡ 7) where
+    module _ (inside-all : outside ≡ rowWidth) where
       ranged : inRange rows r ≡ true
-      ranged = range-is ∙ ap (λ n. eqb n 7) (sym o) ∙ eq-eqb outside 7 inside-all
+      ranged = range-is ∙ ap (λ n. eqb n rowWidth) (sym o) ∙ eq-eqb outside rowWidth inside-all
 
       pub unusable-spacing : spaced rows r ≡ false → usableRow rows r ≡ false
       unfolding usableRow
@@ -100,7 +86,7 @@ module _ (rows : List ℕ) (r : ℕ) (whole : 7 * r + 7 ≤ length rows) {row : 
       usable-by s t e = e ∙ rw (ranged, s, t, here)
 
       -- KB and BM are in their ranges, so that their sum fits
-      pub heights-most : (row .kb ≤ 10_000) × (row .bm ≤ 100_000)
+      pub heights-most : (row .kb ≤ mostInRow 3) × (row .bm ≤ mostInRow 4)
       heights-most = let facts = row-in-range row (sym o ∙ inside-all) in (facts .kb .1, facts .bm .1)
 
 -- ---- the table

@@ -22,10 +22,11 @@ use Rattle.arithmetic.specs.Choice.{if_then_else_}
 use Rattle.arithmetic.proofs.Tests.{both}
 use Rattle.hydrostatics.specs.Row.{numbersOf, waterlineOf}
 use Rattle.hydrostatics.specs.Usable.{seven, rowIn, spacing, inRange, spaced, rises, metacentreFits, usableRow, usableUpTo}
-use Rattle.ranges.specs.Fields.{_to_, within, rowRanges, highestMetacentre}
+use Rattle.ranges.specs.Fields.{within, rangeOf, least, most, rowRanges, highestMetacentre}
 use Rattle.ranges.specs.Outcome.{Outcome, answered, refused, andThen}
 use Rattle.ranges.specs.Outside.{firstOutside}
 use Rattle.ranges.specs.Refusals.{rowsNotUsable}
+use Rattle.ranges.specs.Sizes.{rowWidth}
 use Rattle.ranges.proofs.Facts.{within-whole}
 use Rattle.ranges.proofs.Outcomes.{was-passed, answered-then}
 use Rattle.hydrostatics.proofs.InRows.{RowInRange, row-in-range}
@@ -35,9 +36,9 @@ use Rattle.loading.specs.Table.{tableOf, rowsFrom}
 use Rattle.loading.proofs.Walks.{take-seven}
 
 module _ (rows : List ℕ) where
-  pub seven-are : (r : ℕ) → 7 * r + 7 ≤ length rows → seven rows r ≡ numbersOf (rowIn rows r)
+  pub seven-are : (r : ℕ) → rowWidth * r + rowWidth ≤ length rows → seven rows r ≡ numbersOf (rowIn rows r)
   unfolding rowIn
-  seven-are r h = take-seven rows 0 (7 * r) h
+  seven-are r h = take-seven rows 0 (rowWidth * r) h
 
   pub usable-row : (count n : ℕ) → usableUpTo rows count ≡ answered n → (r : ℕ) → r < count → usableRow rows r ≡ true
   unfolding usableUpTo
@@ -63,8 +64,8 @@ module _ (rows : List ℕ) where
   -- a usable row in numbers
   pub record UsableRow (r : ℕ) : Type 0 where
     pub ranged : RowInRange (rowIn rows r)
-    pub spacing-least : 10 ≤ spacing rows
-    pub spacing-most : spacing rows ≤ 500
+    pub spacing-least : least (rangeOf 3) ≤ spacing rows
+    pub spacing-most : spacing rows ≤ most (rangeOf 3)
     pub draft-is : rowIn rows r .draft ≡ waterlineOf r * spacing rows
 
   tests : (r : ℕ) → usableRow rows r ≡ true → (inRange rows r ≡ true) × (spaced rows r ≡ true) × (rises rows r ≡ true)
@@ -75,21 +76,21 @@ module _ (rows : List ℕ) where
       let ranged = both (inRange rows r) (spaced rows r) (front .0) in
       (ranged .0, ranged .1, front .1)
 
-  in-range : (r : ℕ) → 7 * r + 7 ≤ length rows → inRange rows r ≡ true → firstOutside rowRanges (map pos (numbersOf (rowIn rows r))) ≡ 7
+  in-range : (r : ℕ) → rowWidth * r + rowWidth ≤ length rows → inRange rows r ≡ true → firstOutside rowRanges (map pos (numbersOf (rowIn rows r))) ≡ rowWidth
   unfolding inRange
   in-range r h e =
       ap (λ l. firstOutside rowRanges (map pos l)) (sym (seven-are r h))
-      ∙ eqb-true (firstOutside rowRanges (map pos (seven rows r))) 7 e
+      ∙ eqb-true (firstOutside rowRanges (map pos (seven rows r))) rowWidth e
 
-  spacing-is : (r : ℕ) → spaced rows r ≡ true → (10 ≤ spacing rows) × (spacing rows ≤ 500) × (rowIn rows r .draft ≡ waterlineOf r * spacing rows)
+  spacing-is : (r : ℕ) → spaced rows r ≡ true → (least (rangeOf 3) ≤ spacing rows) × (spacing rows ≤ most (rangeOf 3)) × (rowIn rows r .draft ≡ waterlineOf r * spacing rows)
   unfolding spaced
   spacing-is r e =
       let whole = eqb (2 * spacing rows) (rowIn rows 0 .draft) in
-      let placed = both (whole && within (10 to 500) (pos (spacing rows))) (eqb (rowIn rows r .draft) (waterlineOf r * spacing rows)) e in
-      let g = within-whole (10 to 500) (spacing rows) (both whole (within (10 to 500) (pos (spacing rows))) (placed .0) .1) in
+      let placed = both (whole && within (rangeOf 3) (pos (spacing rows))) (eqb (rowIn rows r .draft) (waterlineOf r * spacing rows)) e in
+      let g = within-whole (rangeOf 3) (spacing rows) (both whole (within (rangeOf 3) (pos (spacing rows))) (placed .0) .1) in
       (g .0, g .1, eqb-true (rowIn rows r .draft) (waterlineOf r * spacing rows) (placed .1))
 
-  pub row-facts : (r : ℕ) → 7 * r + 7 ≤ length rows → usableRow rows r ≡ true → UsableRow r
+  pub row-facts : (r : ℕ) → rowWidth * r + rowWidth ≤ length rows → usableRow rows r ≡ true → UsableRow r
   row-facts r h e =
       let test = tests r e in
       let g = spacing-is r (test .1) in

@@ -6,11 +6,12 @@
 -- Assumes nothing.
 use mathlib.Core.Path.{_≡_, refl, sym, ap, _∙_}
 use mathlib.Core.List.{List, [], _∷_}
-use Prim.Native.Nat.{ℕ, _+_, _*_, _<_, _≤_}
-use native.Mathlib.Nat.{add-assoc, add-zero, zero-add, mul-add}
+use Prim.Native.Nat.{ℕ, suc, _+_, _*_, _<_, _≤_}
+use native.Mathlib.Nat.{add-assoc, add-zero, zero-add, zero-mul, suc-mul, mul-suc}
 use native.Mathlib.Omega.{arith}
 use lib.IntN.{ℤ, pos}
 use lib.ListN.{length, take, drop, getD, drop-of-length-le}
+use Rattle.ranges.specs.Sizes.{itemWidth, tankWidth}
 use Rattle.arithmetic.proofs.Parts.{drop-step}
 use Rattle.loading.specs.Private.Aboard.{nothing, _with_, altogether, itemAt, tankAt, Reach}
 use Rattle.loading.specs.Records.{itemsOf, tanksOf}
@@ -44,42 +45,46 @@ module _ {A : Type 0} (s : List A) (d : A) where
       )
 
 module _ (s : List ℤ) (i : ℕ) where
-  pub items-next : i + 4 ≤ length s → itemsOf (drop i s) ≡ itemAt s i ∷ itemsOf (drop (i + 4) s)
+  pub items-next : i + itemWidth ≤ length s → itemsOf (drop i s) ≡ itemAt s i ∷ itemsOf (drop (i + itemWidth) s)
   unfolding itemsOf
   items-next h = ap itemsOf (drop-four s (pos 0) i h)
 
-  pub tanks-next : i + 8 ≤ length s → tanksOf (drop i s) ≡ tankAt s i ∷ tanksOf (drop (i + 8) s)
+  pub tanks-next : i + tankWidth ≤ length s → tanksOf (drop i s) ≡ tankAt s i ∷ tanksOf (drop (i + tankWidth) s)
   unfolding tanksOf
   tanks-next h = ap tanksOf (drop-eight s (pos 0) i h)
 
--- The walk at place i: what is left of the table, on top of what was walked, comes to what the whole table comes to;
--- and each number walked has added so much at most.
-pub record Walked {A : Type 0} (of : A → Aboard) (recordsOf : List ℤ → List A) (kg kgmm : ℕ) (table : List ℤ) (all : Aboard) (i : ℕ) : Type 0 where
+-- The walk at place i of a table of records of a width: what is left of the table, on top of what was walked, comes to what the whole table comes to;
+-- and each record walked has added so much at most.
+pub record Walked {A : Type 0} (of : A → Aboard) (recordsOf : List ℤ → List A) (width kg kgmm : ℕ) (table : List ℤ) (all : Aboard) (i : ℕ) : Type 0 where
+  pub walked : ℕ
+  pub at : i ≡ walked * width
   pub within : i ≤ length table
   pub same : all with altogether of (recordsOf (drop i table)) ≡ altogether of (recordsOf table)
-  pub reach : Reach (kg * i) (kgmm * i) all
+  pub reach : Reach (kg * walked) (kgmm * walked) all
 
-module _ {A : Type 0} (of : A → Aboard) (recordsOf : List ℤ → List A) (kg kgmm : ℕ) (table : List ℤ) where
-  pub walk-start : Walked of recordsOf kg kgmm table nothing 0
-  walk-start = record { within = omega arith; same = simp zero-add; reach = omega arith }
+module _ {A : Type 0} (of : A → Aboard) (recordsOf : List ℤ → List A) (width kg kgmm : ℕ) (table : List ℤ) where
+  pub walk-start : Walked of recordsOf width kg kgmm table nothing 0
+  walk-start = record { walked = 0; at = sym (zero-mul width); within = omega arith; same = simp zero-add; reach = omega arith }
 
   -- one record further
   pub walk-step :
-      (width : ℕ) {all next : Aboard} {i : ℕ} (one : A)
-      → Walked of recordsOf kg kgmm table all i
+      {all next : Aboard} {i : ℕ} (one : A)
+      → Walked of recordsOf width kg kgmm table all i
       → i + width ≤ length table
       → recordsOf (drop i table) ≡ one ∷ recordsOf (drop (i + width) table)
-      → Reach (kg * width) (kgmm * width) (of one)
+      → Reach kg kgmm (of one)
       → next ≡ all with of one
-      → Walked of recordsOf kg kgmm table next (i + width)
+      → Walked of recordsOf width kg kgmm table next (i + width)
   unfolding altogether
-  walk-step width {all} {next} {i} one w h e r n = record {
+  walk-step {all} {next} {i} one w h e r n = record {
+    walked = suc (w .walked);
+    at = ap (λ k. k + width) (w .at) ∙ sym (suc-mul (w .walked) width);
     within = h;
     same = rw n (sym (simp add-assoc) ∙ rw e at (w .same));
-    reach = rw (n, mul-add kg i width, mul-add kgmm i width) (reach-with (w .reach) r);
+    reach = rw (n, mul-suc kg (w .walked), mul-suc kgmm (w .walked)) (reach-with (w .reach) r);
   }
 
-  pub walk-end : {all : Aboard} {i : ℕ} → Walked of recordsOf kg kgmm table all i → length table ≤ i → recordsOf [] ≡ [] → all ≡ altogether of (recordsOf table)
+  pub walk-end : {all : Aboard} {i : ℕ} → Walked of recordsOf width kg kgmm table all i → length table ≤ i → recordsOf [] ≡ [] → all ≡ altogether of (recordsOf table)
   unfolding altogether
   walk-end {all} {i} w h e =
       let past : drop i table ≡ [] = drop-of-length-le table h in

@@ -57,6 +57,10 @@ floats t l =
     else if ltb (lastRow t .displacement) (weight l) then refused tooHeavy 0
     else answered (conditionAt t l)
 
+-- "2 to 19 whole rows", by the length of their table
+abbrev pub rowsAllowed : ℕ → Bool
+rowsAllowed count = wholeRecords rowWidth mostRows count && leb leastRows (count / rowWidth)
+
 -- "Condition: 7 (items, tanks, then rows: 2 to 19 whole rows), 10, items, tanks, 11, 12"
 unfoldable pub conditionOf : List ℤ → List ℤ → List ℕ → Outcome Condition
 conditionOf items tanks rows =
@@ -64,7 +68,7 @@ conditionOf items tanks rows =
     let badItem = firstOutside item items in
     if not (wholeRecords itemWidth mostItems (length items)) then refused wrongSize itemTable
     else if not (wholeRecords tankWidth mostTanks (length tanks)) then refused wrongSize tankTable
-    else if not (wholeRecords rowWidth mostRows (length rows) && leb leastRows count) then refused wrongSize rowTable
+    else if not (rowsAllowed (length rows)) then refused wrongSize rowTable
     else andThen (usableUpTo rows count) (λ good.
     if ltb badItem (length items) then refused outOfRange (placeOfItems + badItem)
     else andThen (tanksFrom 0 tanks) (λ last. floats (hull rows) (loadOf items tanks)))

@@ -23,6 +23,10 @@ leastGM = 150
 abbrev pub heelLimit : ℕ
 heelLimit = 1_763
 
+-- of which so many are a tangent of 1
+abbrev pub tenThousandths : ℕ
+tenThousandths = 10_000
+
 -- "the tangent, a float from one division of My by W·GM in 64 bits"
 abbrev pub tangent : ℕ → ℤ → ℤ → Float
 tangent W gm my = Ieee.div binary64 (Ieee.ofInt binary64 my) (Ieee.ofInt binary64 (pos W *ℤ gm))
@@ -32,7 +36,7 @@ unfoldable pub heelOf : ℕ → ℤ → ℤ → Heel
 heelOf W gm my =
     if leZ gm (pos 0) then Unstable
     else if eqb (natAbs my) 0 then Upright
-    else if leZ (pos (10_000 * natAbs my)) (pos (heelLimit * W) *ℤ gm) then Heeled (tangent W gm my)
+    else if leZ (pos (tenThousandths * natAbs my)) (pos (heelLimit * W) *ℤ gm) then Heeled (tangent W gm my)
     else Beyond
 
 abbrev pub stands : Heel → Bool

@@ -5,6 +5,7 @@ ghost use Rattle.hydrostatics.specs.Usable.{rowIn};
 ghost use Rattle.loading.specs.Private.Afloat.{RowsUsable, RowBelow, OnLine, Floats, Within};
 ghost use Rattle.loading.specs.Table.{tableOf, line};
 use crate::rows;
+ghost use Rattle.ranges.specs.Sizes.{mostRows};
 
 // A draft and the KM at it, mm.
 pub(crate) struct Floating {
@@ -22,7 +23,7 @@ fn on_line(a: u64, b: u64, lo: u64, hi: u64, w: u64) -> u64
 
 // The last of the rows whose displacement is not above the weight.
 fn row_below(rows: &[u64], count: usize, weight: u64) -> usize
-    requires { ⌜ (0 < count) × (count ≤ 19) × (rowIn (now rows) 0 .displacement ≤ weight) ⌝ }
+    requires { ⌜ (0 < count) × (count ≤ mostRows) × (rowIn (now rows) 0 .displacement ≤ weight) ⌝ }
     ensures { λ r. ⌜ RowBelow (now (rows .entry)) count weight r ⌝ }
 {
     let mut r = 0;

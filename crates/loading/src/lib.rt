@@ -1,16 +1,14 @@
 // The loading condition: items, tanks and rows in, the condition or its one refusal out.
 ghost use mathlib.Core.Path.{_≡_};
-ghost use mathlib.Core.Bool.{_&&_};
-ghost use Prim.Native.Nat.{_/_, _<_};
-ghost use lib.Dec.{leb};
+ghost use Prim.Native.Nat.{_<_};
 ghost use Rattle.loading.specs.Private.Aboard.{Bearable};
 ghost use Rattle.loading.specs.Private.Afloat.{RowsUsable};
-ghost use Rattle.ranges.specs.Sizes.{wholeRecords};
 ghost use Rattle.loading.specs.Promise.{paper, MakesCondition};
 ghost use Rattle.loading.specs.Private.Steady.{Steady, Loadable, conditionWith, floatsWith, afterItems};
 ghost use Rattle.loading.specs.Table.{tableOf};
 use ranges::Refusal;
 use tanks::Trial;
+ghost use Rattle.loading.specs.Condition.{rowsAllowed};
 
 mod floating;
 mod items;
@@ -103,7 +101,7 @@ fn refused(number: u64, place: usize) -> Answer
 
 // 2 to 19 whole rows.
 fn rows_allowed(count: usize) -> bool
-    ensures { λ r. ⌜ r ≡ (wholeRecords 7 19 count && leb 2 (count / 7)) ⌝ }
+    ensures { λ r. ⌜ r ≡ rowsAllowed count ⌝ }
 {
     if !ranges::whole_records(hydrostatics::ROW_WIDTH, hydrostatics::MOST_ROWS, count) {
         return false;

@@ -5,6 +5,7 @@ ghost use lib.ListN.{getD};
 ghost use Rattle.hydrostatics.specs.Usable.{rowIn};
 use hydrostatics::ROW_WIDTH;
 use hydrostatics::Row;
+ghost use Rattle.ranges.specs.Sizes.{mostRows};
 
 // The number at place i of a table, or 0 beyond its end.
 pub(crate) fn number_at(rows: &[u64], i: usize) -> u64
@@ -18,7 +19,7 @@ pub(crate) fn number_at(rows: &[u64], i: usize) -> u64
 
 // The row at number r of a table.
 pub(crate) fn row_at(rows: &[u64], r: usize) -> Row
-    requires { ⌜ r ≤ 19 ⌝ }
+    requires { ⌜ r ≤ mostRows ⌝ }
     ensures { λ row. ⌜ row ≡ rowIn (now (rows .entry)) r ⌝ }
 {
     let at = ROW_WIDTH * r;
@@ -35,7 +36,7 @@ pub(crate) fn row_at(rows: &[u64], r: usize) -> Row
 
 // The displacement of the row at number r of a table.
 pub(crate) fn displacement_at(rows: &[u64], r: usize) -> u64
-    requires { ⌜ r ≤ 19 ⌝ }
+    requires { ⌜ r ≤ mostRows ⌝ }
     ensures { λ n. ⌜ n ≡ rowIn (now (rows .entry)) r .displacement ⌝ }
 {
     number_at(rows, ROW_WIDTH * r + 1)

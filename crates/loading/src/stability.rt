@@ -6,6 +6,7 @@ ghost use Rattle.loading.specs.Stability.{heelOf};
 ghost use Rattle.loading.specs.Private.Steady.{aboveZero, gmOf, passesWith, Moderate};
 use crate::Condition;
 use crate::Heel;
+ghost use Rattle.ranges.specs.Fields.{highestMetacentre};
 
 // The heel limit is a tangent in ten-thousandths.
 const TEN_THOUSANDTHS: u64 = 10_000;
@@ -20,7 +21,7 @@ pub(crate) fn less(a: u64, b: u64) -> i64
 
 // KM less the moment by the weight, the quotient rounded up.
 pub(crate) fn gm_of(km: u64, moment: u64, weight: u64) -> i64
-    requires { ⌜ (km ≤ 100_000) × (moment < 2 ^ 62) × (0 < weight) ⌝ }
+    requires { ⌜ (km ≤ highestMetacentre) × (moment < 2 ^ 62) × (0 < weight) ⌝ }
     ensures { λ r. ⌜ r ≡ gmOf km moment weight ⌝ }
 {
     less(km, arithmetic::rounded_up(moment, weight))

@@ -9,6 +9,8 @@ ghost use Rattle.loading.specs.Rules.{surfaceOf};
 use crate::Aboard;
 use crate::weights;
 use ranges::Refusal;
+ghost use Rattle.ranges.specs.Sizes.{tankWidth, roomForTanks};
+ghost use Rattle.ranges.specs.Refusals.{placeOfTanks};
 
 // All tanks of a table together, or the first refusal.
 pub(crate) enum Trial {
@@ -22,14 +24,14 @@ const PARTS: u64 = 12_000_000_000;
 // The free surface of a slack tank.
 fn slack_surface(length: u64, breadth: u64, density: u64) -> u64
     requires { ⌜ RoomOf length breadth density ⌝ }
-    ensures { λ r. ⌜ r ≡ roundedUp (length * breadth ^ 3 * density) 12_000_000_000 ⌝ }
+    ensures { λ r. ⌜ r ≡ roundedUp (length * breadth ^ 3 * density) (rectangle .unit) ⌝ }
 {
     arithmetic::rounded_up(length * (breadth * breadth * breadth) * density, PARTS)
 }
 
 // The free surface of the tank at place i of a table: 0 where it is empty or full.
 fn surface_in(tanks: &[i64], i: usize) -> u64
-    requires { ⌜ (i + 8 ≤ length (now tanks)) × TankFits (tankAt (now tanks) i) ⌝ }
+    requires { ⌜ (i + tankWidth ≤ length (now tanks)) × TankFits (tankAt (now tanks) i) ⌝ }
     ensures { λ r. ⌜ r ≡ surfaceOf rectangle (tankAt (now (tanks .entry)) i) ⌝ }
 {
     let contents = arithmetic::size_at(tanks, i);
@@ -48,7 +50,7 @@ fn surface_in(tanks: &[i64], i: usize) -> u64
 
 // What the tank at place i of a table brings.
 fn tank_in(tanks: &[i64], i: usize) -> Aboard
-    requires { ⌜ (i + 8 ≤ length (now tanks)) × TankFits (tankAt (now tanks) i) ⌝ }
+    requires { ⌜ (i + tankWidth ≤ length (now tanks)) × TankFits (tankAt (now tanks) i) ⌝ }
     ensures { λ r. ⌜ r ≡ ofTank (tankAt (now (tanks .entry)) i) ⌝ }
 {
     weights::weight_in(tanks, i, i + 2, surface_in(tanks, i))
@@ -56,8 +58,8 @@ fn tank_in(tanks: &[i64], i: usize) -> Aboard
 
 // A refusal of a number of the tanks' table.
 fn refused(number: u64, place: usize) -> Trial
-    requires { ⌜ place ≤ 1_000 ⌝ }
-    ensures { λ r. ⌜ r ≡ Trial.Refused (record { number = number; place = 2_000 + place }) ⌝ }
+    requires { ⌜ place ≤ roomForTanks ⌝ }
+    ensures { λ r. ⌜ r ≡ Trial.Refused (record { number = number; place = placeOfTanks + place }) ⌝ }
 {
     Trial::Refused(Refusal {
         number,

@@ -1,21 +1,20 @@
 // Whether a table of rows is usable, row by row.
 ghost use mathlib.Core.Path.{_≡_};
 ghost use mathlib.Core.Bool.{_||_};
-ghost use Prim.Native.Nat.{_+_, _*_, _≤_};
+ghost use Prim.Native.Nat.{_+_, _*_, _<_, _≤_};
 ghost use lib.Dec.{eqb};
 ghost use lib.ListN.{length};
 ghost use Rattle.hydrostatics.specs.Usable.{spaced, rises, usableRow};
-ghost use Rattle.loading.specs.Private.Afloat.{RowsWhole, RowsTried};
+ghost use Rattle.loading.specs.Private.Afloat.{mostInRow, RowsWhole, RowsTried};
 use crate::rows;
+ghost use Rattle.ranges.specs.Sizes.{mostRows, rowWidth};
 
-// The distance between waterlines, mm.
-const LEAST_SPACING: u64 = 10;
+// The field of the distance between waterlines.
+const SPACING: usize = ranges::PARTICULARS + 3;
 
-const GREATEST_SPACING: u64 = 500;
-
-// Row r has draft (r + 2)·g, with g half of row 0's draft, whole and 10 to 500.
+// Row r has draft (r + 2)·g, with g half of row 0's draft, whole and in the range of a distance between waterlines.
 fn is_spaced(rows: &[u64], r: usize) -> bool
-    requires { ⌜ r ≤ 18 ⌝ }
+    requires { ⌜ r < mostRows ⌝ }
     ensures { λ b. ⌜ b ≡ spaced (now (rows .entry)) r ⌝ }
 {
     let first = rows::number_at(rows, 0);
@@ -23,10 +22,7 @@ fn is_spaced(rows: &[u64], r: usize) -> bool
     if 2 * spacing != first {
         return false;
     }
-    if spacing < LEAST_SPACING {
-        return false;
-    }
-    if GREATEST_SPACING < spacing {
+    if !ranges::whole_in_range(SPACING, spacing) {
         return false;
     }
     rows::number_at(rows, hydrostatics::ROW_WIDTH * r) == (r as u64 + 2) * spacing
@@ -34,7 +30,7 @@ fn is_spaced(rows: &[u64], r: usize) -> bool
 
 // Row r displaces more than the row before it.
 fn is_rising(rows: &[u64], r: usize) -> bool
-    requires { ⌜ r ≤ 18 ⌝ }
+    requires { ⌜ r < mostRows ⌝ }
     ensures { λ b. ⌜ b ≡ rises (now (rows .entry)) r ⌝ }
 {
     if r == 0 {
@@ -45,7 +41,7 @@ fn is_rising(rows: &[u64], r: usize) -> bool
 
 // KB + BM is KM or KM less one.
 fn metacentre_fits(kb: u64, bm: u64, km: u64) -> bool
-    requires { ⌜ (kb ≤ 10_000) × (bm ≤ 100_000) ⌝ }
+    requires { ⌜ (kb ≤ mostInRow 3) × (bm ≤ mostInRow 4) ⌝ }
     ensures { λ b. ⌜ b ≡ (eqb (kb + bm) km || eqb (kb + bm + 1) km) ⌝ }
 {
     if kb + bm == km {
@@ -56,7 +52,7 @@ fn metacentre_fits(kb: u64, bm: u64, km: u64) -> bool
 
 // Whether row r of a table is usable.
 fn is_usable(rows: &[u64], r: usize) -> bool
-    requires { ⌜ (r ≤ 18) × (7 * r + 7 ≤ length (now rows)) ⌝ }
+    requires { ⌜ (r < mostRows) × (rowWidth * r + rowWidth ≤ length (now rows)) ⌝ }
     ensures { λ b. ⌜ b ≡ usableRow (now (rows .entry)) r ⌝ }
 {
     let row = rows::row_at(rows, r);

@@ -2,6 +2,7 @@
 ghost use mathlib.Core.Path.{_≡_};
 ghost use Rattle.loading.specs.Private.Aboard.{nothing, Stowed, StowedIn, Bearable, weightAt, weightIn, _with_};
 use crate::Aboard;
+ghost use Rattle.ranges.specs.Fields.{most, rangeOf};
 
 // Nothing aboard.
 pub(crate) fn none() -> Aboard
@@ -19,7 +20,7 @@ pub(crate) fn none() -> Aboard
 
 // What kg at x, y, z bring, with so much free surface.
 pub(crate) fn weight_at(kg: u64, x: u64, y: i64, z: u64, surface: u64) -> Aboard
-    requires { ⌜ Stowed 400_000 kg x y z ⌝ }
+    requires { ⌜ Stowed (most (rangeOf 10)) kg x y z ⌝ }
     ensures { λ r. ⌜ r ≡ weightAt kg x y z surface ⌝ }
 {
     let sides = ranges::sides_of(y);

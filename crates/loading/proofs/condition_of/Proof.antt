@@ -7,7 +7,7 @@ use borrow.Author.Tests.{not-true, not-false}
 use lib.IntN.{ℤ}
 use lib.ListN.{length}
 use Rattle.loading.specs.Condition.{conditionOf}
-use Rattle.ranges.specs.Sizes.{wholeRecords}
+use Rattle.ranges.specs.Sizes.{wholeRecords, itemWidth, tankWidth, mostItems, mostTanks}
 use Rattle.loading.specs.Promise.{paper, MakesCondition}
 use Rattle.loading.specs.declared.Answer.{Answer}
 use Rattle.loading.proofs.Order.{Sized, wrong-items, wrong-tanks, wrong-rows, rows-whole, bad-row, bad-item, after-all, loadable}
@@ -15,10 +15,10 @@ use borrow.Author.Needs.{needs}
 use Rattle.loading.proofs.condition_of.Statement.{statement}
 use Rattle.loading.proofs.condition_of.Tie as tie
 
-items-whole : (c : tie.Else1) → wholeRecords 4 32 (length (c .before .before .before .args .items .now)) ≡ true
+items-whole : (c : tie.Else1) → wholeRecords itemWidth mostItems (length (c .before .before .before .args .items .now)) ≡ true
 items-whole c = sym (c .before .items-fit .ensures) ∙ not-false _ (c .if1 .left)
 
-tanks-whole : (c : tie.Else2) → wholeRecords 8 16 (length (c .before .before .before .before .before .args .tanks .now)) ≡ true
+tanks-whole : (c : tie.Else2) → wholeRecords tankWidth mostTanks (length (c .before .before .before .before .before .args .tanks .now)) ≡ true
 tanks-whole c = sym (c .before .tanks-fit .ensures) ∙ not-false _ (c .if2 .left)
 
 sized : (c : tie.Else3) → let s = c .before .before .before .before .before .before .before .args in Sized (s .items .now) (s .tanks .now) (s .rows .now)

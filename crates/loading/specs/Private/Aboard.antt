@@ -1,6 +1,6 @@
 -- What is aboard, added up in one walk: kg, the moments in kg·mm, the transverse one by its two sides, and the free surface.
 -- That these sums are the load's weight and moments: `Moments` of proofs/.
-use Prim.Native.Nat.{ℕ, _+_, _*_, _%_, _≤_}
+use Prim.Native.Nat.{ℕ, _+_, _*_, _/_, _%_, _^_, _≤_}
 use mathlib.Core.Path.{_≡_}
 use mathlib.Core.List.{List, [], _∷_}
 use lib.IntN.{ℤ, pos, natAbs}
@@ -9,6 +9,7 @@ use Rattle.ranges.specs.Fields.{most, rangeOf, item}
 use Rattle.ranges.specs.Outcome.{Outcome, answered, refused, andThen}
 use Rattle.ranges.specs.Outside.{firstOutside}
 use Rattle.ranges.specs.Sides.{sidesOf}
+use Rattle.ranges.specs.Sizes.{itemWidth, tankWidth, mostItems, mostTanks}
 use Rattle.loading.specs.Condition.{tanksFrom}
 use Rattle.loading.specs.Load.{Item, Tank, Load}
 use Rattle.loading.specs.Paper.{rectangle}
@@ -122,14 +123,25 @@ pub record Reach (kg kgmm : ℕ) (a : Aboard) : Type 0 where
   pub vertical : a .vertical ≤ most (rangeOf 9) * a .weight
   pub surface : a .surface ≤ kgmm
 
--- all that can be aboard: 32 items and 16 tanks, of which each has a surface of 640,000,000 kg·mm at most
-abbrev pub Bearable : Aboard → Type 0
-Bearable = Reach (32 * most (rangeOf 6) + 16 * most (rangeOf 10)) (16 * 640_000_000)
+-- the largest free surface of a tank in range, kg·mm: 640,000,000
+abbrev pub mostSurface : ℕ
+mostSurface = most (rangeOf 15) * most (rangeOf 16) ^ 3 * most (rangeOf 17) / rectangle .unit
 
--- the items of a table: whole records, 32 at most, each number in its range
+-- all items, and all tanks: kg
+abbrev pub mostInItems : ℕ
+mostInItems = mostItems * most (rangeOf 6)
+
+abbrev pub mostInTanks : ℕ
+mostInTanks = mostTanks * most (rangeOf 10)
+
+-- all that can be aboard
+abbrev pub Bearable : Aboard → Type 0
+Bearable = Reach (mostInItems + mostInTanks) (mostTanks * mostSurface)
+
+-- the items of a table: whole records, no more than there may be, each number in its range
 pub record ItemsFit (table : List ℤ) : Type 0 where
-  pub whole : length table % 4 ≡ 0
-  pub few : length table ≤ 32 * 4
+  pub whole : length table % itemWidth ≡ 0
+  pub few : length table ≤ mostItems * itemWidth
   pub in-range : firstOutside item table ≡ length table
 
 -- what was asked, and within reach
@@ -137,10 +149,10 @@ pub record Brought (kg kgmm : ℕ) (asked given : Aboard) : Type 0 where
   pub is : given ≡ asked
   pub reach : Reach kg kgmm given
 
--- the tanks of a table: whole records, 16 at most
+-- the tanks of a table: whole records, no more than there may be
 pub record TanksWhole (table : List ℤ) : Type 0 where
-  pub whole : length table % 8 ≡ 0
-  pub few : length table ≤ 16 * 8
+  pub whole : length table % tankWidth ≡ 0
+  pub few : length table ≤ mostTanks * tankWidth
 
 -- the tanks, tried and added up
 unfoldable pub tanksAboard : List ℤ → Outcome Aboard
@@ -151,7 +163,7 @@ tried (Passed all) = answered all
 tried (Refused r) = refused (r .number) (r .place)
 
 abbrev pub TrialReach : Trial → Type 0
-TrialReach (Passed all) = Reach (16 * most (rangeOf 10)) (16 * 640_000_000) all
+TrialReach (Passed all) = Reach mostInTanks (mostTanks * mostSurface) all
 TrialReach (Refused r) = Unit
 
 pub record TanksTried (table : List ℤ) (r : Trial) : Type 0 where

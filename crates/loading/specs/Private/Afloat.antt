@@ -3,12 +3,13 @@ use Prim.Native.Nat.{ℕ, _+_, _*_, _-_, _≤_, _<_}
 use mathlib.Core.Path.{_≡_}
 use mathlib.Core.List.{List}
 use lib.Dec.{ltb}
-use lib.ListN.{length}
+use lib.ListN.{length, getD}
 use Rattle.arithmetic.specs.Choice.{if_then_else_}
-use Rattle.ranges.specs.Fields.{highestMetacentre}
+use Rattle.ranges.specs.Fields.{highestMetacentre, _to_, most, rowRanges}
 use Rattle.hydrostatics.specs.Usable.{rowIn, usableUpTo}
 use Rattle.ranges.specs.Outcome.{answered, refused}
 use Rattle.ranges.specs.Refusals.{rowsNotUsable}
+use Rattle.ranges.specs.Sizes.{rowWidth, leastRows, mostRows}
 use Rattle.loading.specs.Paper.{paperRules}
 use Rattle.loading.specs.Stability.{kmAt}
 use Rattle.loading.specs.Table.{Table, lastRow, tableOf, placeOf, placeFrom, rowsFrom, draftOf, line}
@@ -16,9 +17,9 @@ use Rattle.loading.specs.declared.floating.Floating.{Floating}
 
 -- "2 to 19 whole rows"
 pub record RowsWhole (rows : List ℕ) (count : ℕ) : Type 0 where
-  pub whole : length rows ≡ 7 * count
-  pub least : 2 ≤ count
-  pub most : count ≤ 19
+  pub whole : length rows ≡ rowWidth * count
+  pub least : leastRows ≤ count
+  pub most : count ≤ mostRows
 
 pub record RowsUsable (rows : List ℕ) (count : ℕ) : Type 0 where
   pub size : RowsWhole rows count
@@ -33,11 +34,15 @@ pub record Within (t : Table) (W : ℕ) : Type 0 where
   pub least : t .first .displacement ≤ W
   pub most : W ≤ lastRow t .displacement
 
+-- a number of a row in its range, by its place in the row
+abbrev pub mostInRow : ℕ → ℕ
+mostInRow place = most (getD rowRanges place (1 to 0))
+
 -- heights of a KM at most, a at lo and b at hi, and a weight between the two
 pub record OnLine (a b lo hi w : ℕ) : Type 0 where
   pub low : lo ≤ w
   pub high : w < hi
-  pub most : hi ≤ 17_600_000
+  pub most : hi ≤ mostInRow 1
   pub first : a ≤ highestMetacentre
   pub second : b ≤ highestMetacentre
 

@@ -10,7 +10,7 @@ use Rattle.arithmetic.specs.Rounding.{roundedUp}
 use Rattle.ranges.specs.Fields.{most, rangeOf, highestMetacentre}
 use Rattle.ranges.specs.Outcome.{Outcome, answered, refused, andThen}
 use Rattle.ranges.specs.Refusals.{tooLight, tooHeavy}
-use Rattle.loading.specs.Private.Aboard.{Bearable, ItemsFit, TanksWhole}
+use Rattle.loading.specs.Private.Aboard.{mostInItems, mostInTanks, Bearable, ItemsFit, TanksWhole}
 use Rattle.loading.specs.Private.Afloat.{RowsUsable}
 use Rattle.loading.specs.Condition.{tanksFrom, floats}
 use Rattle.loading.specs.Paper.{paperRules}
@@ -59,9 +59,9 @@ pub record Steady (a : Aboard) (km : ℕ) : Type 0 where
 
 -- a weight, a GM and a transverse moment no larger than those of a condition: each is held exactly by a 64-bit float
 pub record Moderate (weight : ℕ) (gm my : ℤ) : Type 0 where
-  pub weight-most : weight ≤ 16_000_000
+  pub weight-most : weight ≤ mostInItems + mostInTanks
   pub gm-most : aboveZero gm ≤ highestMetacentre
-  pub my-most : natAbs my ≤ most (rangeOf 8) * 16_000_000
+  pub my-most : natAbs my ≤ most (rangeOf 8) * (mostInItems + mostInTanks)
 
 -- what is aboard against a table: 11 below the first row, 12 above the last
 unfoldable pub floatsWith : Table → Aboard → Outcome Condition

@@ -1,6 +1,6 @@
 -- The outcome goes by three tests; the products fit, and the casts to floats are exact, by the ranges. Assumes nothing.
 use mathlib.Core.Path.{_≡_, ap, _∙_}
-use Prim.Native.Nat.{_*_, _≤_}
+use Prim.Native.Nat.{_+_, _*_, _≤_}
 use native.Mathlib.Nat.{mul-le-mul, le-trans}
 use native.Mathlib.Omega.{arith}
 use lib.Dec.{lit≤}
@@ -10,6 +10,8 @@ use Rattle.arithmetic.proofs.Floats.{exact-whole, exact-signed}
 use Rattle.loading.specs.Private.Steady.{aboveZero}
 use Rattle.loading.proofs.Heels.{unstable, upright, heeled, beyond}
 use borrow.Author.Needs.{needs}
+use Rattle.ranges.specs.Fields.{highestMetacentre}
+use Rattle.loading.specs.Private.Aboard.{mostInItems, mostInTanks}
 use Rattle.loading.proofs.stability.heel_of.Statement.{statement}
 use Rattle.loading.proofs.stability.heel_of.Tie as tie
 
@@ -19,9 +21,9 @@ height c = heard aboveZero (c .before .fits .gm) (c .above-zero .ensures)
 moment : (c : tie.After-magnitude) → c .magnitude .result ≡ natAbs (c .before .before .before .args .my)
 moment c = heard natAbs (c .before .before .before .fits .my) (c .magnitude .ensures)
 
-righting : (c : tie.After-above-zero) → c .before .args .weight * c .above-zero .result ≤ 16_000_000 * 100_000
+righting : (c : tie.After-above-zero) → c .before .args .weight * c .above-zero .result ≤ (mostInItems + mostInTanks) * highestMetacentre
 righting c =
-    let low : c .above-zero .result ≤ 100_000 = omega (arith, height c) in
+    let low : c .above-zero .result ≤ highestMetacentre = omega (arith, height c) in
     mul-le-mul (c .before .pre .weight-most) low
 
 above-zero-requires : tie.Need-above-zero-requires

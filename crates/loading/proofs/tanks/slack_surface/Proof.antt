@@ -7,6 +7,7 @@ use borrow.Author.Needs.{needs}
 use Rattle.arithmetic.specs.Rounding.{roundedUp}
 use Rattle.arithmetic.proofs.Ring.{pow3}
 use Rattle.ranges.specs.Fields.{most, rangeOf}
+use Rattle.loading.specs.Paper.{rectangle}
 use Rattle.loading.specs.Private.Aboard.{RoomOf}
 use Rattle.loading.proofs.tanks.slack_surface.Statement.{statement}
 use Rattle.loading.proofs.tanks.slack_surface.Tie as tie
@@ -39,7 +40,7 @@ rounded-up-requires c κs = search needs
 returns : tie.Need-returns
 returns c =
     let s = c .before .args in
-    c .rounded-up .ensures ∙ ap (λ n. roundedUp (s .length * n * s .density) 12_000_000_000) (sym (pow3 (s .breadth)))
+    c .rounded-up .ensures ∙ ap (λ n. roundedUp (s .length * n * s .density) (rectangle .unit)) (sym (pow3 (s .breadth)))
 
 pub slack-surface-spec : {M : Type 1} → statement M
 slack-surface-spec =

@@ -4,9 +4,11 @@ use mathlib.Core.List.{[]}
 use Prim.Native.Nat.{_+_, _-_, _%_, _≤_}
 use native.Mathlib.Omega.{arith}
 use lib.ListN.{length, drop}
-use Rattle.ranges.specs.Fields.{tank}
+use Rattle.ranges.specs.Fields.{tank, most, rangeOf}
 use Rattle.ranges.specs.Outside.{firstOutside}
-use Rattle.loading.specs.Private.Aboard.{_with_, tankAt, ofTank, TankFits}
+use Rattle.ranges.specs.Sizes.{tankWidth}
+use Rattle.ranges.specs.Refusals.{outOfRange, placeOfTanks}
+use Rattle.loading.specs.Private.Aboard.{_with_, mostSurface, tankAt, ofTank, TankFits}
 use Rattle.loading.specs.Condition.{tanksFrom}
 use Rattle.loading.specs.Records.{tanksOf}
 use Rattle.loading.specs.declared.tanks.Trial.the-variants.{Refused}
@@ -17,9 +19,8 @@ use Rattle.loading.proofs.Walks.{Walked, walk-start, walk-step, walk-en
 use Rattle.loading.proofs.tanks.tanks_aboard.Statement.{statement}
 use Rattle.loading.proofs.tanks.tanks_aboard.Tie as tie
 
--- a tank adds 400,000 kg and 640,000,000 kg·mm at most, 50,000 and 80,000,000 for each of its eight numbers
 abbrev Inv-loop : tie.InvT-loop
-Inv-loop tanks all₀ i₀ all i = (i % 8 ≡ 0) × (tanksFrom 0 tanks ≡ tanksFrom i (drop i tanks)) × Walked ofTank tanksOf 50_000 80_000_000 tanks all i
+Inv-loop tanks all₀ i₀ all i = (tanksFrom 0 tanks ≡ tanksFrom i (drop i tanks)) × Walked ofTank tanksOf tankWidth (most (rangeOf 10)) mostSurface tanks all i
 
 abbrev μ-loop : tie.MeasureT-loop
 μ-loop tanks all₀ i₀ all i = length tanks - i
@@ -32,7 +33,7 @@ none-requires : tie.Need-none-requires Inv-loop μ-loop
 none-requires c κs = tt
 
 loop-holds : tie.Need-loop-holds Inv-loop μ-loop
-loop-holds c = rw (c .none .ensures) (refl, refl, walk-start ofTank tanksOf 50_000 80_000_000 (c .before .args .tanks .now))
+loop-holds c = rw (c .none .ensures) (refl, walk-start ofTank tanksOf tankWidth (most (rangeOf 10)) mostSurface (c .before .args .tanks .now))
 
 add-end : tie.Need-add-end Inv-loop μ-loop
 add-end c = omega arith
@@ -53,8 +54,8 @@ tank-outside-requires : tie.Need-tank-outside-requires Inv-loop μ-loop
 tank-outside-requires c κs = tt
 
 -- the tank's eight numbers are there, and tried
-whole : (c : tie.In-loop Inv-loop μ-loop) → c .before .loop .i + 8 ≤ length (c .before .before .before .args .tanks .now)
-whole c = omega arith
+whole : (c : tie.In-loop Inv-loop μ-loop) → c .before .loop .i + tankWidth ≤ length (c .before .before .before .args .tanks .now)
+whole c = omega (arith, c .before .loop .inv .1 .at)
 
 tried : (c : tie.After-tank-outside Inv-loop μ-loop) → let l = c .before .before .before in c .tank-outside .result ≡ firstOutside tank (eightAt (l .before .before .args .tanks .now) (l .loop .i))
 tried c =
@@ -66,7 +67,7 @@ module _ (c : tie.Else1 Inv-loop μ-loop) where
   abbrev at : tie.At-loop Inv-loop μ-loop
   at = c .before .before .before .before
 
-  inside : 8 ≤ firstOutside tank (eightAt (at .before .before .args .tanks .now) (at .loop .i))
+  inside : tankWidth ≤ firstOutside tank (eightAt (at .before .before .args .tanks .now) (at .loop .i))
   inside = omega (arith, tried (c .before))
 
   fits : TankFits (tankAt (at .before .before .args .tanks .now) (at .loop .i))
@@ -84,8 +85,8 @@ returns c =
     let l = t .before .before .before in
     let tanks = l .before .before .args .tanks .now in
     trial-refused tanks
-    (l .loop .inv .1 ∙ tank-outside tanks (l .loop .i) (whole (t .before .before)) (omega (arith, tried t)))
-    (c .refused .ensures ∙ ap (λ n. Refused (record { number = 4; place = 2_000 + (l .loop .i + n) })) (tried t))
+    (l .loop .inv .0 ∙ tank-outside tanks (l .loop .i) (whole (t .before .before)) (omega (arith, tried t)))
+    (c .refused .ensures ∙ ap (λ n. Refused (record { number = outOfRange; place = placeOfTanks + (l .loop .i + n) })) (tried t))
 
 add-size-at : tie.Need-add-size-at Inv-loop μ-loop
 add-size-at c = omega arith
@@ -105,7 +106,7 @@ returns-2 c =
     let l = at e in
     let tanks = l .before .before .args .tanks .now in
     trial-refused tanks
-    (l .loop .inv .1 ∙ tank-overfull tanks (l .loop .i) (whole (e .before .before .before)) (inside e) (omega (arith, c .before .if2 .taken)))
+    (l .loop .inv .0 ∙ tank-overfull tanks (l .loop .i) (whole (e .before .before .before)) (inside e) (omega (arith, c .before .if2 .taken)))
     (c .refused2 .ensures)
 
 tank-in-requires : tie.Need-tank-in-requires Inv-loop μ-loop
@@ -118,7 +119,7 @@ together-requires c κs =
     let e = c .before .before .before .before in
     let l = at e in
     let here = tankAt (l .before .before .args .tanks .now) (l .loop .i) in (
-      reach-less (l .loop .inv .2 .reach) (omega arith) (omega arith),
+      reach-less (l .loop .inv .1 .reach) (omega arith) (omega arith),
       rw (c .tank-in .ensures) (reach-less (reach-weight (fits e .stowed) _) (omega arith) (omega (arith, surface-most here (fits e .room)))),
     )
 
@@ -132,9 +133,8 @@ loop-again c =
     let tanks = l .before .before .args .tanks .now in
     let i = l .loop .i in
     let there = whole (e .before .before .before) in (
-      omega arith,
-      l .loop .inv .1 ∙ tank-passed tanks i there (inside e) (omega (arith, c .before .before .if2 .left)),
-      walk-step ofTank tanksOf 50_000 80_000_000 tanks 8 (tankAt tanks i) (l .loop .inv .2) there (tanks-next tanks i there)
+      l .loop .inv .0 ∙ tank-passed tanks i there (inside e) (omega (arith, c .before .before .if2 .left)),
+      walk-step ofTank tanksOf tankWidth (most (rangeOf 10)) mostSurface tanks (tankAt tanks i) (l .loop .inv .1) there (tanks-next tanks i there)
           (reach-less (reach-weight (fits e .stowed) _) (omega arith) (surface-most (tankAt tanks i) (fits e .room)))
           (c .together .ensures ∙ ap (λ a. l .loop .all with a) (c .before .tank-in .ensures)),
     )
@@ -144,9 +144,9 @@ returns-3 c =
     let l = c .before in
     let tanks = l .before .before .args .tanks .now in
     trial-passed tanks
-    (l .loop .inv .1 ∙ trial-end tanks (l .loop .i) (c .loop-test .left))
-    (walk-end ofTank tanksOf 50_000 80_000_000 tanks (l .loop .inv .2) (c .loop-test .left) none-left)
-    (reach-less (l .loop .inv .2 .reach) (omega arith) (omega arith))
+    (l .loop .inv .0 ∙ trial-end tanks (l .loop .i) (c .loop-test .left))
+    (walk-end ofTank tanksOf tankWidth (most (rangeOf 10)) mostSurface tanks (l .loop .inv .1) (c .loop-test .left) none-left)
+    (reach-less (l .loop .inv .1 .reach) (omega arith) (omega arith))
 
 pub tanks-aboard-spec : {M : Type 1} → statement M
 tanks-aboard-spec =

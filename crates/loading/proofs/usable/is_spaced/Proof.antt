@@ -1,10 +1,16 @@
 -- The spacing is tested before it is multiplied, so that the product fits. Assumes nothing.
-use mathlib.Core.Path.{_≡_, sym}
-use Prim.Native.Nat.{_+_, _≤_}
+use mathlib.Core.Path.{_≡_, sym, _∙_}
+use mathlib.Core.Bool.{true}
+use Prim.Native.Nat.{_/_, _≤_}
 use native.Mathlib.Nat.{mul-le-mul}
 use native.Mathlib.Omega.{arith}
+use borrow.Author.Tests.{not-true, not-false}
+use lib.IntN.{pos}
+use Rattle.hydrostatics.specs.Row.{waterlineOf}
 use Rattle.hydrostatics.specs.Usable.{rowIn}
-use Rattle.loading.proofs.Trying.{spaced-odd, spaced-narrow, spaced-wide, spaced-by}
+use Rattle.ranges.specs.Fields.{within, rangeOf, most}
+use Rattle.ranges.proofs.Facts.{within-whole}
+use Rattle.loading.proofs.Trying.{spaced-odd, spaced-outside, spaced-by}
 use borrow.Author.Needs.{needs}
 use Rattle.loading.proofs.usable.is_spaced.Statement.{statement}
 use Rattle.loading.proofs.usable.is_spaced.Tie as tie
@@ -28,17 +34,14 @@ returns c =
     let s = c .before .before .before .args in
     sym (spaced-odd (s .rows .now) (s .r) (first (c .before)) (c .if1 .taken))
 
+whole-in-range-requires : tie.Need-whole-in-range-requires
+whole-in-range-requires c κs = search needs
+
 returns-2 : tie.Need-returns-2
 returns-2 c =
-    let e = c .before in
-    let s = e .before .before .before .args in
-    sym (spaced-narrow (s .rows .now) (s .r) (first (e .before)) (e .if1 .left) (c .if2 .taken))
-
-returns-3 : tie.Need-returns-3
-returns-3 c =
     let e = c .before .before in
     let s = e .before .before .before .args in
-    sym (spaced-wide (s .rows .now) (s .r) (first (e .before)) (e .if1 .left) (c .before .if2 .left) (c .if3 .taken))
+    sym (spaced-outside (s .rows .now) (s .r) (first (e .before)) (e .if1 .left) (sym (c .before .whole-in-range .ensures) ∙ not-true _ (c .if2 .taken)))
 
 mul-number-at : tie.Need-mul-number-at
 mul-number-at c = search needs
@@ -49,16 +52,20 @@ number-at-requires-2 c κs = search needs
 add-result : tie.Need-add-result
 add-result c = search needs
 
+-- the spacing is in its range
+ranged : (c : tie.Else2) → within (rangeOf 3) (pos (c .before .before .before .number-at .result / 2)) ≡ true
+ranged c = sym (c .before .whole-in-range .ensures) ∙ not-false _ (c .if2 .left)
+
 mul-result : tie.Need-mul-result
 mul-result c =
-    let row : c .before .before .before .before .before .before .args .r + 2 ≤ 20 = omega arith in
-    omega (arith, mul-le-mul row (c .before .if3 .left))
+    let row : waterlineOf (c .before .before .before .before .before .before .args .r) ≤ most (rangeOf 1) = omega arith in
+    omega (arith, mul-le-mul row (within-whole (rangeOf 3) _ (ranged (c .before)) .1))
 
-returns-4 : tie.Need-returns-4
-returns-4 c =
+returns-3 : tie.Need-returns-3
+returns-3 c =
     let e = c .before .before .before in
     let s = e .before .before .before .args in
-    sym (spaced-by (s .rows .now) (s .r) (first (e .before)) (e .if1 .left) (draft c) (c .before .before .if2 .left) (c .before .if3 .left))
+    sym (spaced-by (s .rows .now) (s .r) (first (e .before)) (e .if1 .left) (draft c) (ranged (c .before)))
 
 pub is-spaced-spec : {M : Type 1} → statement M
 is-spaced-spec =
@@ -67,10 +74,10 @@ is-spaced-spec =
     number-at-requires
     mul-if1
     returns
+    whole-in-range-requires
     returns-2
-    returns-3
     mul-number-at
     number-at-requires-2
     add-result
     mul-result
-    returns-4)
+    returns-3)
