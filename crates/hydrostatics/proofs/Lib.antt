@@ -14,6 +14,7 @@ pub mod Metacentre
 pub mod Ranged
 pub mod Reading
 pub mod Usable
+pub mod MadeRows
 pub mod Unique
 pub mod Shown
 pub mod Numbered
