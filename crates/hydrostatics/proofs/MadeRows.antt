@@ -5,7 +5,7 @@ use mathlib.Core.Path.{_≡_, ap, _∙_}
 use mathlib.Core.List.{List}
 use Prim.Native.Nat.{ℕ, _/_, _<_}
 use native.Mathlib.Omega.{arith}
-use lib.ListN.{length, drop}
+use lib.ListN.{length}
 use Rattle.ranges.specs.Sizes.{rowWidth, rowsOver}
 use Rattle.ranges.specs.declared.Particulars.{Particulars}
 use Rattle.hydrostatics.specs.Promise.{tableAfter, MakesRows}

@@ -1,5 +1,5 @@
 -- Laws of the sum over a curve.
---     curve-same                   equal ordinates, equal sums
+--     curve-same, curveℤ-same      equal ordinates, equal sums
 --     curve-plus, curve-times      it is linear
 --     curve-mono                   ordinates never larger, a sum never larger
 --     curve-swap                   over a surface, either way first
@@ -10,9 +10,10 @@ use mathlib.Core.Path.{_≡_, sym, ap, _∙_}
 use Prim.Native.Nat.{ℕ, zero, suc, _+_, _*_, _≤_, _<_}
 use native.Mathlib.Nat.{mul-add, mul-left-comm, mul-le-mul-left}
 use native.Mathlib.Omega.{arith}
-use lib.IntN.{pos}
+use lib.IntN.{ℤ, pos, _*ℤ_}
 use Rattle.arithmetic.specs.Sum.{sumBy, sumTo}
 use Rattle.arithmetic.proofs.Algebra.{natural}
+use Rattle.arithmetic.proofs.Integer.{integer}
 use Rattle.arithmetic.proofs.Sums.{sum-same, sum-plus, times-sum, sum-swap, sum-mono}
 use Rattle.simpson.specs.Multipliers.{multiplier}
 use Rattle.arithmetic.proofs.Whole.{pos-sum}
@@ -22,6 +23,10 @@ module _ (n : ℕ) where
   pub curve-same : (y z : ℕ → ℕ) → ((i : ℕ) → i ≤ n → y i ≡ z i) → curve n y ≡ curve n z
   unfolding curve
   curve-same y z h = sum-same natural (n + 1) _ _ (λ i l. ap (λ v. multiplier n i * v) (h i (omega arith)))
+
+  pub curveℤ-same : (y z : ℕ → ℤ) → ((i : ℕ) → i ≤ n → y i ≡ z i) → curveℤ n y ≡ curveℤ n z
+  unfolding curveℤ
+  curveℤ-same y z h = sum-same integer (n + 1) _ _ (λ i l. ap (λ v. pos (multiplier n i) *ℤ v) (h i (omega arith)))
 
   pub curve-plus : (y z : ℕ → ℕ) → curve n (λ i. y i + z i) ≡ curve n y + curve n z
   unfolding curve

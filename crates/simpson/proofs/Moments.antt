@@ -1,27 +1,29 @@
 -- The sum over a cubic with whole coefficients, and what follows of the multipliers.
+--     curve-exact                        a curve whose ordinates are those of a cubic with coefficients of either sign has its area
 --     curve-of-cubic                     24an + 12bn² + 8cn³ + 6en⁴
 --     curve-of-one, curve-of-place       two of its four instances: 24n, 12n²
 --     curve-of-square, curve-of-cube     and the other two: 8n³, 6n⁴
 --     curve-le                           a bound on each ordinate bounds the sum, by the rectangle's area
 -- Assumes nothing.
-use mathlib.Core.Path.{_≡_, ap, _∙_, fun-ext}
+use mathlib.Core.Path.{_≡_, ap, _∙_}
 use Prim.Native.Nat.{ℕ, zero, suc, _+_, _*_, _^_, _≤_}
 use native.Mathlib.Omega.{arith}
-use lib.IntN.{pos}
-use Rattle.simpson.specs.Curve.{curve, curveℤ}
-use Rattle.simpson.specs.Cubic.{cubic}
+use lib.IntN.{ℤ, pos}
+use Rattle.simpson.specs.Curve.{curve}
+use Rattle.simpson.specs.Cubic.{cubic, area}
 use Rattle.simpson.proofs.Exact.{curveℤ-of-cubic}
 use Rattle.arithmetic.proofs.Whole.{pos-injective, pos-pow}
-use Rattle.simpson.proofs.Curves.{pos-curve, curve-same, curve-times, curve-mono, curve-few}
+use Rattle.simpson.proofs.Curves.{pos-curve, curve-same, curveℤ-same, curve-times, curve-mono, curve-few}
+
+pub curve-exact : (n : ℕ) (y : ℕ → ℕ) (a b c e : ℤ) → 2 ≤ n → ((i : ℕ) → i ≤ n → pos (y i) ≡ cubic a b c e (pos i)) → pos (curve n y) ≡ area a b c e (pos n)
+curve-exact n y a b c e h is = pos-curve n y ∙ curveℤ-same n _ _ is ∙ curveℤ-of-cubic n h a b c e
 
 module _ (n : ℕ) (h : 2 ≤ n) where
   pub curve-of-cubic : (a b c e : ℕ) → curve n (λ i. a + b * i + c * i ^ 2 + e * i ^ 3) ≡ 24 * a * n + 12 * b * n ^ 2 + 8 * c * n ^ 3 + 6 * e * n ^ 4
   curve-of-cubic a b c e =
       let signed : (i : ℕ) → pos (a + b * i + c * i ^ 2 + e * i ^ 3) ≡ cubic (pos a) (pos b) (pos c) (pos e) (pos i) = λ i. rw (← pos-pow i 2, ← pos-pow i 3) in
       pos-injective
-      (pos-curve n (λ i. a + b * i + c * i ^ 2 + e * i ^ 3)
-      ∙ ap (curveℤ n) (fun-ext signed)
-      ∙ curveℤ-of-cubic n h (pos a) (pos b) (pos c) (pos e)
+      (curve-exact n _ (pos a) (pos b) (pos c) (pos e) h (λ i l. signed i)
       ∙ rw (← pos-pow n 2, ← pos-pow n 3, ← pos-pow n 4))
 
   pub curve-of-one : curve n (λ i. 1) ≡ 24 * n
