@@ -15,7 +15,6 @@ ghost use Rattle.ranges.specs.Fields.{rowRanges};
 ghost use Rattle.hydrostatics.specs.Row.{numbersOf};
 use ranges::Particulars;
 use ranges::Refusal;
-use ranges::is_between;
 use table::fill_rows;
 use table::refused;
 
@@ -54,9 +53,9 @@ pub enum Display {
 }
 
 // How many numbers a row has, how many rows the largest hull has, and the room for all of them.
-pub const ROW_WIDTH: usize = 7;
+pub const ROW_WIDTH: usize = ranges::ROW_WIDTH;
 
-pub const MOST_ROWS: usize = 19;
+pub const MOST_ROWS: usize = ranges::MOST_ROWS;
 
 pub const ROW_ROOM: usize = ROW_WIDTH * MOST_ROWS;
 
@@ -83,9 +82,6 @@ pub fn make_rows(half_breadths: &[u64], p: Particulars, rows: &mut [u64]) -> Row
     fill_rows(half_breadths, p, rows)
 }
 
-// No metacentre may be above this, in mm.
-const HIGHEST_METACENTRE: u64 = 100_000;
-
 // A metre in mm, which is also a tonne in kg, and a square metre in mm².
 const METRE: f64 = 1_000.0;
 
@@ -95,28 +91,16 @@ const SQUARE_METRE: f64 = 1_000_000.0;
 pub fn row_outside(row: Row) -> usize
     ensures { λ r. ⌜ r ≡ firstOutside rowRanges (map pos (numbersOf row)) ⌝ }
 {
-    if !is_between(row.draft, 20, 10_000) {
-        return 0;
-    }
-    if !is_between(row.displacement, 1, 17_600_000) {
-        return 1;
-    }
-    if !is_between(row.lcb, 0, 100_000) {
-        return 2;
-    }
-    if !is_between(row.kb, 0, 10_000) {
-        return 3;
-    }
-    if !is_between(row.bm, 0, 100_000) {
-        return 4;
-    }
-    if !is_between(row.km, 0, HIGHEST_METACENTRE) {
-        return 5;
-    }
-    if !is_between(row.area, 0, 1_600_000_000) {
-        return 6;
-    }
-    ROW_WIDTH
+    let numbers = [
+        row.draft,
+        row.displacement,
+        row.lcb,
+        row.kb,
+        row.bm,
+        row.km,
+        row.area,
+    ];
+    ranges::row_outside(&numbers)
 }
 
 // n over a unit: one division, of a whole number that is converted exactly.

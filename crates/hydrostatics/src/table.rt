@@ -9,7 +9,6 @@ ghost use Rattle.hydrostatics.specs.Promise.{paper};
 ghost use Rattle.hydrostatics.specs.Row.{rowAt, numbersOf};
 ghost use Rattle.hydrostatics.specs.Private.Table.{noRow, numbersUpTo, TriedRows, FillsRows};
 ghost use Rattle.hydrostatics.specs.Private.Waterplanes.{InRange, Given, Kept, SumsOf, SumsWithin};
-use crate::HIGHEST_METACENTRE;
 use crate::MOST_ROWS;
 use crate::ROW_WIDTH;
 use crate::Row;
@@ -19,6 +18,7 @@ use crate::waterplanes::cube_sum;
 use crate::waterplanes::row_sums;
 use crate::waterplanes::station_multipliers;
 use crate::waterplanes::waterplane_sums;
+use ranges::HIGHEST_METACENTRE;
 use ranges::Particulars;
 use ranges::Refusal;
 

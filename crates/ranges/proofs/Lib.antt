@@ -1,5 +1,5 @@
 -- The laws of this crate, for every crate above it.
-pub mod Table
+pub mod Within
 pub mod Outside
 pub mod Facts
 pub mod Outcomes

@@ -2,23 +2,24 @@
 --     outside-step, outside-here, outside-end     the walk at place i: on, ended, past the last number
 --     outside-le                                  the first number outside stands in the table, or after its end
 --     field-next, field-after-lt                  the field after a field
---     section-length, section-at                  a section as a part of the fields
---     half-breadth-step, -here, -end              the walk over half-breadths, which are whole numbers
+--     Walking                                     the walk over a section of the fields, at place i
+--     walking-none, walking-more                  before the first number; one number more, in the code's `i + 1`
+--     walking-here, walking-all                   at a number outside, and past the last
 -- Assumes nothing.
 use mathlib.Core.Path.{_≡_, refl, sym, ap, _∙_}
-use mathlib.Core.Bool.{Bool, true, false}
-use mathlib.Core.List.{List, [], _∷_, map}
+use mathlib.Core.Bool.{true, false}
+use mathlib.Core.List.{List, [], _∷_}
 use Prim.Native.Nat.{ℕ, suc, _+_, _%_, _≤_, _<_}
-use native.Mathlib.Nat.{mod-eq-of-lt, mod-self, mod-add-mod, mod-one}
+use native.Mathlib.Nat.{mod-eq-of-lt, mod-self, mod-add-mod, zero-mod}
 use native.Mathlib.Omega.{arith}
 use borrow.Author.Tests.{ltb-true, ltb-false}
 use lib.Dec.{ltb}
 use lib.IntN.{ℤ, pos}
-use lib.ListN.{length, getD, take, drop, drop-of-length-le, length-drop, length-map, List·getD-map}
+use lib.ListN.{length, getD, take, drop, drop-of-length-le, length-drop}
 use lib.Seq.{getD-take, getD-drop, length-take-le}
 use Rattle.arithmetic.proofs.Choice.{chosen, if-either}
 use Rattle.arithmetic.proofs.Parts.{drop-step}
-use Rattle.ranges.specs.Fields.{Range, _to_, within, fields, rangeOf, halfBreadth}
+use Rattle.ranges.specs.Fields.{Range, _to_, within, fields, rangeOf}
 use Rattle.ranges.specs.Outside.{outsideFrom, firstOutside, fieldAfter}
 
 module _ (section : List Range) (table : List ℤ) (i : ℕ) where
@@ -33,10 +34,6 @@ module _ (section : List Range) (table : List ℤ) (i : ℕ) where
   pub outside-end : length table ≤ i → outsideFrom section i (drop i table) ≡ i
   unfolding outsideFrom
   outside-end h = rw (drop-of-length-le table h)
-
-pub outside-start : (section : List Range) (table : List ℤ) → outsideFrom section 0 (drop 0 table) ≡ firstOutside section table
-unfolding firstOutside
-outside-start section table = refl
 
 outside-from-le : (section : List Range) (place : ℕ) (table : List ℤ) → outsideFrom section place table ≤ place + length table
 unfolding outsideFrom
@@ -63,28 +60,38 @@ pub field-after-lt : (k width : ℕ) → 0 < width → fieldAfter k width < widt
 unfolding fieldAfter
 field-after-lt k width h = if-either (λ n. n < width) (ltb (k + 1) width) (λ t. ltb-true (k + 1) width t) (λ t. h)
 
-module _ (first width : ℕ) (h : first + width ≤ 18) where
-  pub section-length : length (take width (drop first fields)) ≡ width
-  section-length = length-take-le width (drop first fields) (omega (arith, length-drop first fields))
+-- ---- the walk that the code makes: at place i, whose number is of field `field` of its record
+-- the fields that a table's records have, `width` from number `first` on
+abbrev pub section : ℕ → ℕ → List Range
+section first width = take width (drop first fields)
 
-  -- number i of a table is of field k of its record
-  pub section-at : (i k : ℕ) → k ≡ i % width → k < width → getD (take width (drop first fields)) (i % length (take width (drop first fields))) (1 to 0) ≡ rangeOf (first + k)
-  section-at i k e l =
-      rw (section-length, ← e) (getD-take width (drop first fields) k (1 to 0) l ∙ getD-drop first fields k (1 to 0))
+pub record Walking (first width : ℕ) (table : List ℤ) (i field : ℕ) : Type 0 where
+  pub in-record : field < width
+  pub field-is : field ≡ i % width
+  pub so-far : outsideFrom (section first width) i (drop i table) ≡ firstOutside (section first width) table
 
--- the same walk over half-breadths, which are one field each
-module _ (table : List ℕ) (i : ℕ) (l : i < length table) where
-  half-breadth-at : within (getD halfBreadth (i % 1) (1 to 0)) (getD (map pos table) i (pos 0)) ≡ within (rangeOf 5) (pos (getD table i 0))
-  half-breadth-at = rw (mod-one, List·getD-map pos table i 0)
+module _ {first width : ℕ} {table : List ℤ} where
+  pub walking-none : 0 < width → Walking first width table 0 0
+  unfolding firstOutside
+  walking-none some = record { in-record = some; field-is = sym (zero-mod width); so-far = refl }
 
-  within-table : i < length (map pos table)
-  within-table = omega (arith, length-map table pos)
+  module _ (fits : first + width ≤ length fields) {i field : ℕ} (so : Walking first width table i field) where
+    section-length : length (section first width) ≡ width
+    section-length = length-take-le width (drop first fields) (omega (arith, length-drop first fields))
 
-  pub half-breadth-step : within (rangeOf 5) (pos (getD table i 0)) ≡ true → outsideFrom halfBreadth (i + 1) (drop (i + 1) (map pos table)) ≡ outsideFrom halfBreadth i (drop i (map pos table))
-  half-breadth-step e = outside-step halfBreadth (map pos table) i within-table (half-breadth-at ∙ e)
+    range-is : getD (section first width) (i % length (section first width)) (1 to 0) ≡ rangeOf (first + field)
+    range-is =
+        rw (section-length, ← so .field-is) (getD-take width (drop first fields) field (1 to 0) (so .in-record) ∙ getD-drop first fields field (1 to 0))
 
-  pub half-breadth-here : within (rangeOf 5) (pos (getD table i 0)) ≡ false → outsideFrom halfBreadth i (drop i (map pos table)) ≡ i
-  half-breadth-here e = outside-here halfBreadth (map pos table) i within-table (half-breadth-at ∙ e)
+    pub walking-more : i < length table → within (rangeOf (first + field)) (getD table i (pos 0)) ≡ true → {next : ℕ} → next ≡ fieldAfter field width → Walking first width table (i + 1) next
+    walking-more h e n = record {
+      in-record = rw n (field-after-lt field width (omega (arith, so .in-record)));
+      field-is = n ∙ field-next i field width (so .field-is) (so .in-record);
+      so-far = outside-step (section first width) table i h (ap (λ r. within r (getD table i (pos 0))) range-is ∙ e) ∙ so .so-far;
+    }
 
-pub half-breadth-end : (table : List ℕ) (i : ℕ) → length table ≤ i → outsideFrom halfBreadth i (drop i (map pos table)) ≡ i
-half-breadth-end table i h = outside-end halfBreadth (map pos table) i (omega (arith, length-map table pos))
+    pub walking-here : i < length table → within (rangeOf (first + field)) (getD table i (pos 0)) ≡ false → i ≡ firstOutside (section first width) table
+    walking-here h e = sym (outside-here (section first width) table i h (ap (λ r. within r (getD table i (pos 0))) range-is ∙ e)) ∙ so .so-far
+
+    pub walking-all : length table ≤ i → i ≡ firstOutside (section first width) table
+    walking-all h = sym (outside-end (section first width) table i h) ∙ so .so-far

@@ -2,13 +2,13 @@
 ghost use mathlib.Core.Path.{_≡_};
 ghost use mathlib.Core.List.{map};
 ghost use lib.IntN.{pos};
-ghost use lib.ListN.{take, drop};
+ghost use lib.ListN.{length, take, drop};
 ghost use Prim.Native.Nat.{_+_, _<_, _≤_};
-ghost use Rattle.ranges.specs.Private.Bounds.{boundsOf};
-ghost use Rattle.ranges.specs.Fields.{_to_, ±_, within, rangeOf, fields, particulars, halfBreadth, item, tank};
+ghost use Rattle.ranges.specs.Private.Bounds.{rangeKept};
+ghost use Rattle.ranges.specs.Fields.{_to_, within, rangeOf, fields, particulars, halfBreadth, item, tank, rowRanges};
 ghost use Rattle.ranges.specs.Outside.{fieldAfter, firstOutside, numbersOf};
 ghost use Rattle.ranges.specs.Sides.{sidesOf};
-ghost use Rattle.ranges.specs.Sizes.{wholeRecords, mostItems, mostTanks};
+ghost use Rattle.ranges.specs.Sizes.{wholeRecords, itemWidth, tankWidth, mostItems, mostTanks};
 
 // A refusal: the paper's number for it, and its place.
 pub struct Refusal {
@@ -46,7 +46,7 @@ impl Refusal {
     pub const ROOM_TOO_SHORT: u64 = 14;
 
     // Where the places of each table's numbers begin; the particulars' begin at 0.
-    pub const HALF_BREADTHS_AT: usize = 5;
+    pub const HALF_BREADTHS_AT: usize = PARTICULAR_COUNT;
 
     pub const ITEMS_AT: usize = 1_000;
 
@@ -78,87 +78,92 @@ pub struct Sides {
     pub starboard: u64,
 }
 
-// The fields of the file by number: the first of each section.
-pub const PARTICULARS: usize = 0;
-
-pub const HALF_BREADTH: usize = 5;
-
-pub const ITEM: usize = 6;
-
-pub const TANK: usize = 10;
-
-// The most bytes of a file.
-pub const LONGEST_FILE: usize = 16_384;
-
-// How many particulars there are, how many numbers an item and a tank have, and how many of each there may be.
+// How many particulars there are, and how many numbers an item, a tank and a row have.
 pub const PARTICULAR_COUNT: usize = 5;
 
 pub const ITEM_WIDTH: usize = 4;
 
 pub const TANK_WIDTH: usize = 8;
 
+pub const ROW_WIDTH: usize = 7;
+
+// The fields by number: the first of each section.
+pub const PARTICULARS: usize = 0;
+
+pub const HALF_BREADTH: usize = PARTICULARS + PARTICULAR_COUNT;
+
+pub const ITEM: usize = HALF_BREADTH + 1;
+
+pub const TANK: usize = ITEM + ITEM_WIDTH;
+
+pub const ROW: usize = TANK + TANK_WIDTH;
+
+// The most intervals of length, n, and of draft, m; the highest KM of a row, in mm.
+pub const MOST_LENGTH_INTERVALS: u64 = 40;
+
+pub const MOST_DRAFT_INTERVALS: u64 = 20;
+
+pub const HIGHEST_METACENTRE: u64 = 100_000;
+
+// The most stations and waterlines, one more than the intervals; the most rows, one for each waterline from number 2 up; the
+// most items and tanks.
+pub const MOST_STATIONS: usize = MOST_LENGTH_INTERVALS as usize + 1;
+
+pub const MOST_WATERLINES: usize = MOST_DRAFT_INTERVALS as usize + 1;
+
+pub const MOST_ROWS: usize = MOST_WATERLINES - 2;
+
 pub const MOST_ITEMS: usize = 32;
 
 pub const MOST_TANKS: usize = 16;
 
+// The most bytes of a file.
+pub const LONGEST_FILE: usize = 16_384;
+
 // The room that holds the numbers of any file.
-pub const HALF_BREADTH_ROOM: usize = 861;
+pub const HALF_BREADTH_ROOM: usize = MOST_STATIONS * MOST_WATERLINES;
 
 pub const ITEM_ROOM: usize = ITEM_WIDTH * MOST_ITEMS;
 
 pub const TANK_ROOM: usize = TANK_WIDTH * MOST_TANKS;
 
-// The range of a field: its least number from 0 on, its greatest, and whether it reaches as far below 0.
-struct Bounds {
-    least: u64,
-    greatest: u64,
-    signed: bool,
-}
-
-fn from_to(least: u64, greatest: u64) -> Bounds
-    ensures { λ r. ⌜ r ≡ boundsOf (least to greatest) ⌝ }
-{
-    Bounds {
-        least,
-        greatest,
-        signed: false,
-    }
-}
-
-fn either_side(greatest: u64) -> Bounds
-    ensures { λ r. ⌜ r ≡ boundsOf (± greatest) ⌝ }
-{
-    Bounds {
-        least: 0,
-        greatest,
-        signed: true,
-    }
+// The range of a field: from a least number to a greatest, or as far below 0 as above.
+enum Bounds {
+    FromTo(u64, u64),
+    EitherSide(u64),
 }
 
 // The range of a field by its number. No number is in the range of a field that there is not.
 fn bounds_of(field: usize) -> Bounds
-    ensures { λ r. ⌜ r ≡ boundsOf (rangeOf field) ⌝ }
+    ensures { λ r. ⌜ rangeKept r ≡ rangeOf field ⌝ }
 {
     match field {
-        0 => from_to(2, 40), // n
-        1 => from_to(3, 20), // m
-        2 => from_to(50, 2_500), // s
-        3 => from_to(10, 500), // d
-        4 => from_to(900, 1_100), // density
-        5 => from_to(0, 8_000), // half-breadth
-        6 => from_to(0, 300_000), // item: kg
-        7 => from_to(0, 100_000), // x
-        8 => either_side(10_000), // y
-        9 => from_to(0, 30_000), // z
-        10 => from_to(0, 400_000), // tank: contents
-        11 => from_to(1, 400_000), // capacity
-        12 => from_to(0, 100_000), // x
-        13 => either_side(10_000), // y
-        14 => from_to(0, 30_000), // z
-        15 => from_to(1, 10_000), // length
-        16 => from_to(1, 8_000), // breadth
-        17 => from_to(1, 1_500), // liquid density
-        _ => from_to(1, 0),
+        0 => Bounds::FromTo(2, MOST_LENGTH_INTERVALS), // n
+        1 => Bounds::FromTo(3, MOST_DRAFT_INTERVALS), // m
+        2 => Bounds::FromTo(50, 2_500), // s
+        3 => Bounds::FromTo(10, 500), // d
+        4 => Bounds::FromTo(900, 1_100), // density
+        5 => Bounds::FromTo(0, 8_000), // half-breadth
+        6 => Bounds::FromTo(0, 300_000), // item: kg
+        7 => Bounds::FromTo(0, 100_000), // x
+        8 => Bounds::EitherSide(10_000), // y
+        9 => Bounds::FromTo(0, 30_000), // z
+        10 => Bounds::FromTo(0, 400_000), // tank: contents
+        11 => Bounds::FromTo(1, 400_000), // capacity
+        12 => Bounds::FromTo(0, 100_000), // x
+        13 => Bounds::EitherSide(10_000), // y
+        14 => Bounds::FromTo(0, 30_000), // z
+        15 => Bounds::FromTo(1, 10_000), // length
+        16 => Bounds::FromTo(1, 8_000), // breadth
+        17 => Bounds::FromTo(1, 1_500), // liquid density
+        18 => Bounds::FromTo(20, 10_000), // row: draft
+        19 => Bounds::FromTo(1, 17_600_000), // displacement
+        20 => Bounds::FromTo(0, 100_000), // LCB
+        21 => Bounds::FromTo(0, 10_000), // KB
+        22 => Bounds::FromTo(0, 100_000), // BM
+        23 => Bounds::FromTo(0, HIGHEST_METACENTRE), // KM
+        24 => Bounds::FromTo(0, 1_600_000_000), // waterplane area
+        _ => Bounds::FromTo(1, 0),
     }
 }
 
@@ -176,22 +181,24 @@ pub fn is_between(n: u64, least: u64, greatest: u64) -> bool
 pub fn whole_in_range(field: usize, n: u64) -> bool
     ensures { λ r. ⌜ r ≡ within (rangeOf field) (pos n) ⌝ }
 {
-    let bounds = bounds_of(field);
-    is_between(n, bounds.least, bounds.greatest)
+    match bounds_of(field) {
+        Bounds::FromTo(least, greatest) => is_between(n, least, greatest),
+        Bounds::EitherSide(greatest) => n <= greatest,
+    }
 }
 
 // Whether a number of either sign is in a field's range.
 pub fn in_range(field: usize, v: i64) -> bool
     ensures { λ r. ⌜ r ≡ within (rangeOf field) v ⌝ }
 {
-    if arithmetic::is_negative(v) {
-        let bounds = bounds_of(field);
-        if bounds.signed {
-            return arithmetic::magnitude(v) <= bounds.greatest;
-        }
-        return false;
+    let size = arithmetic::magnitude(v);
+    if !arithmetic::is_negative(v) {
+        return whole_in_range(field, size);
     }
-    whole_in_range(field, arithmetic::magnitude(v))
+    match bounds_of(field) {
+        Bounds::FromTo(_, _) => false,
+        Bounds::EitherSide(greatest) => size <= greatest,
+    }
 }
 
 // y's two sides.
@@ -215,36 +222,22 @@ pub fn sides_of(y: i64) -> Sides
 pub fn particular_outside(p: Particulars) -> usize
     ensures { λ r. ⌜ r ≡ firstOutside particulars (numbersOf p) ⌝ }
 {
-    if !whole_in_range(PARTICULARS, p.n as u64) {
-        return 0;
-    }
-    if !whole_in_range(PARTICULARS + 1, p.m as u64) {
-        return 1;
-    }
-    if !whole_in_range(PARTICULARS + 2, p.s) {
-        return 2;
-    }
-    if !whole_in_range(PARTICULARS + 3, p.d) {
-        return 3;
-    }
-    if !whole_in_range(PARTICULARS + 4, p.density) {
-        return 4;
-    }
-    5
+    let numbers = [p.n as u64, p.m as u64, p.s, p.d, p.density];
+    whole_outside(&numbers, PARTICULARS, PARTICULAR_COUNT)
 }
 
 // The place of the first half-breadth out of range, or the table's length.
 pub fn half_breadth_outside(table: &[u64]) -> usize
     ensures { λ r. ⌜ r ≡ firstOutside halfBreadth (map pos (now (table .entry))) ⌝ }
 {
-    let mut i = 0;
-    while i < table.len() {
-        if !whole_in_range(HALF_BREADTH, table[i]) {
-            return i;
-        }
-        i += 1;
-    }
-    i
+    whole_outside(table, HALF_BREADTH, 1)
+}
+
+// The place of the first number of a table of rows out of range, or the table's length.
+pub fn row_outside(table: &[u64]) -> usize
+    ensures { λ r. ⌜ r ≡ firstOutside rowRanges (map pos (now (table .entry))) ⌝ }
+{
+    whole_outside(table, ROW, ROW_WIDTH)
 }
 
 // The place of the first number of a table of items out of range, or the table's length.
@@ -263,14 +256,14 @@ pub fn tank_outside(table: &[i64]) -> usize
 
 // Whether so many numbers are whole items, and no more than there may be.
 pub fn items_fit(count: usize) -> bool
-    ensures { λ r. ⌜ r ≡ wholeRecords 4 mostItems count ⌝ }
+    ensures { λ r. ⌜ r ≡ wholeRecords itemWidth mostItems count ⌝ }
 {
     whole_records(ITEM_WIDTH, MOST_ITEMS, count)
 }
 
 // Whether so many numbers are whole tanks, and no more than there may be.
 pub fn tanks_fit(count: usize) -> bool
-    ensures { λ r. ⌜ r ≡ wholeRecords 8 mostTanks count ⌝ }
+    ensures { λ r. ⌜ r ≡ wholeRecords tankWidth mostTanks count ⌝ }
 {
     whole_records(TANK_WIDTH, MOST_TANKS, count)
 }
@@ -290,13 +283,30 @@ pub fn whole_records(width: usize, allowed: usize, count: usize) -> bool
 
 // The place of the first number out of range in a table of records whose fields are `width` from number `first` on.
 fn first_outside(table: &[i64], first: usize, width: usize) -> usize
-    requires { ⌜ (0 < width) × (first + width ≤ 18) ⌝ }
+    requires { ⌜ (0 < width) × (first + width ≤ length fields) ⌝ }
     ensures { λ r. ⌜ r ≡ firstOutside (take width (drop first fields)) (now (table .entry)) ⌝ }
 {
     let mut i = 0;
     let mut field = 0;
     while i < table.len() {
         if !in_range(first + field, arithmetic::number_at(table, i)) {
+            return i;
+        }
+        field = field_after(field, width);
+        i += 1;
+    }
+    i
+}
+
+// The same in a table of whole numbers.
+fn whole_outside(table: &[u64], first: usize, width: usize) -> usize
+    requires { ⌜ (0 < width) × (first + width ≤ length fields) ⌝ }
+    ensures { λ r. ⌜ r ≡ firstOutside (take width (drop first fields)) (map pos (now (table .entry))) ⌝ }
+{
+    let mut i = 0;
+    let mut field = 0;
+    while i < table.len() {
+        if !whole_in_range(first + field, table[i]) {
             return i;
         }
         field = field_after(field, width);

@@ -1,40 +1,35 @@
--- The walk: what is left of the table from place i on has the first number out of range where the whole table has it, and the field goes round. Assumes nothing.
-use Prim.Native.Nat.{_+_, _%_, _≤_, _<_, _-_}
-use mathlib.Core.Path.{_≡_, sym, subst, _∙_}
-use mathlib.Core.Bool.{Bool}
-use native.Mathlib.Nat.{zero-mod}
+-- What is left of the table from place i on has the first number out of range where the whole table has it. Assumes nothing.
+use Prim.Native.Nat.{_+_, _≤_, _-_}
+use mathlib.Core.Path.{_≡_, sym, ap, _∙_}
 use native.Mathlib.Omega.{arith}
 use borrow.Author.Needs.{needs}
 use borrow.Author.Tests.{not-true, not-false}
-use lib.IntN.{ℤ, pos}
-use lib.ListN.{length, getD, take, drop}
+use lib.IntN.{pos}
+use lib.ListN.{length, getD}
 use Rattle.arithmetic.proofs.Crossing.{heard}
-use Rattle.ranges.specs.Fields.{Range, _to_, within, rangeOf, fields}
-use Rattle.ranges.specs.Outside.{outsideFrom, firstOutside}
-use Rattle.ranges.proofs.Outside.{outside-start, outside-step, outside-here, outside-end, field-next, field-after-lt, section-at}
+use Rattle.ranges.specs.Fields.{within, rangeOf}
+use Rattle.ranges.proofs.Outside.{Walking, walking-none, walking-more, walking-here, walking-all}
 use Rattle.ranges.proofs.first_outside.Statement.{statement}
 use Rattle.ranges.proofs.first_outside.Tie as tie
 
 abbrev Inv-loop : tie.InvT-loop
-Inv-loop table first width i₀ field₀ i field = (i ≤ length table) × (field < width) × (field ≡ i % width) × (outsideFrom (take width (drop first fields)) i (drop i table) ≡ firstOutside (take width (drop first fields)) table)
+Inv-loop table first width i₀ field₀ i field = (i ≤ length table) × Walking first width table i field
 
 abbrev μ-loop : tie.MeasureT-loop
 μ-loop table first width i₀ field₀ i field = length table - i
 
--- what the test says of number i, as the walk has it
+-- what the test says of number i
 tested :
     (c : tie.After-in-range Inv-loop μ-loop)
     → let l = c .before .before .before in
-    let s = l .before .args in
-    within (getD (take (s .width) (drop (s .first) fields)) (l .loop .i % length (take (s .width) (drop (s .first) fields))) (1 to 0)) (getD (s .table .now) (l .loop .i) (pos 0)) ≡ c .in-range .result
+    within (rangeOf (l .before .args .first + l .loop .field)) (getD (l .before .args .table .now) (l .loop .i) (pos 0)) ≡ c .in-range .result
 tested c =
     let l = c .before .before .before in
-    let s = l .before .args in
-    let range = section-at (s .first) (s .width) (l .before .pre .1) (l .loop .i) (l .loop .field) (l .loop .inv .2) (l .loop .inv .1) in
-    rw (range, ← c .before .number-at .ensures) (sym (heard (within (rangeOf (s .first + l .loop .field))) (record { sfits = c .before .number-at .ok }) (c .in-range .ensures)))
+    let test = within (rangeOf (l .before .args .first + l .loop .field)) in
+    ap test (sym (c .before .number-at .ensures)) ∙ sym (heard test (record { sfits = c .before .number-at .ok }) (c .in-range .ensures))
 
 loop-holds : tie.Need-loop-holds Inv-loop μ-loop
-loop-holds c = (omega arith, c .pre .0, sym (zero-mod _), outside-start (take (c .args .width) (drop (c .args .first) fields)) (c .args .table .now))
+loop-holds c = (omega arith, walking-none (c .pre .0))
 
 add-in-range : tie.Need-add-in-range Inv-loop μ-loop
 add-in-range c = omega arith
@@ -46,7 +41,9 @@ in-range-requires : tie.Need-in-range-requires Inv-loop μ-loop
 in-range-requires c κs = search needs
 
 returns : tie.Need-returns Inv-loop μ-loop
-returns c = sym (outside-here _ _ _ (c .before .before .before .loop-test .taken) (tested (c .before) ∙ not-true _ (c .if1 .taken))) ∙ c .before .before .before .before .loop .inv .3
+returns c =
+    let l = c .before .before .before .before in
+    walking-here (l .before .pre .1) (l .loop .inv .1) (omega arith) (tested (c .before) ∙ not-true _ (c .if1 .taken))
 
 field-after-requires : tie.Need-field-after-requires Inv-loop μ-loop
 field-after-requires c κs = search needs
@@ -60,15 +57,10 @@ loop-less c = omega arith
 loop-again : tie.Need-loop-again Inv-loop μ-loop
 loop-again c =
     let l = c .before .before .before .before .before in
-    let s = l .before .args in (
-      omega arith,
-      subst (λ k. k < s .width) (sym (c .field-after .ensures)) (field-after-lt _ (s .width) (l .before .pre .0)),
-      c .field-after .ensures ∙ field-next (l .loop .i) _ (s .width) (l .loop .inv .2) (l .loop .inv .1),
-      outside-step (take (s .width) (drop (s .first) fields)) (s .table .now) (l .loop .i) (c .before .before .before .before .loop-test .taken) (tested (c .before .before) ∙ not-false _ (c .before .if1 .left)) ∙ l .loop .inv .3,
-    )
+    (omega arith, walking-more (l .before .pre .1) (l .loop .inv .1) (omega arith) (tested (c .before .before) ∙ not-false _ (c .before .if1 .left)) (c .field-after .ensures))
 
 returns-2 : tie.Need-returns-2 Inv-loop μ-loop
-returns-2 c = sym (outside-end (take (c .before .before .args .width) (drop (c .before .before .args .first) fields)) (c .before .before .args .table .now) (c .before .loop .i) (c .loop-test .left)) ∙ c .before .loop .inv .3
+returns-2 c = let l = c .before in walking-all (l .before .pre .1) (l .loop .inv .1) (omega arith)
 
 pub first-outside-spec : {M : Type 1} → statement M
 first-outside-spec =

@@ -1,8 +1,8 @@
--- A range as the code keeps it.
-use mathlib.Core.Bool.{true, false}
+-- The range that the code keeps of a field.
 use Rattle.ranges.specs.Fields.{Range, _to_, ±_}
 use Rattle.ranges.specs.declared.Bounds.{Bounds}
+use Rattle.ranges.specs.declared.Bounds.the-variants.{FromTo, EitherSide}
 
-abbrev pub boundsOf : Range → Bounds
-boundsOf (a to b) = record { least = a; greatest = b; signed = false }
-boundsOf (± b) = record { least = 0; greatest = b; signed = true }
+abbrev pub rangeKept : Bounds → Range
+rangeKept (FromTo a b) = a to b
+rangeKept (EitherSide b) = ± b
