@@ -31,7 +31,7 @@ use Rattle.offsets.specs.declared.reader.Parsed.the-variants as P
 module _ (text h₀ : List ℕ) (i₀ t₀ : List ℤ) where
   refusal : (number place : ℕ) → readerOf text (length h₀) (length i₀) (length t₀) ≡ refused number place → Reads text h₀ h₀ i₀ i₀ t₀ t₀ (Refused (record { number = number; place = place }))
   unfolding summarised filled
-  refusal number place e = record { answer-is = rw e; half-breadths-left = rw e; items-left = rw e; tanks-left = rw e }
+  refusal number place e = record { answer-is = rw e; tables-are = record { half-breadths-left = rw e; items-left = rw e; tanks-left = rw e } }
 
   pub half-short : length h₀ < roomForHalfBreadths → Reads text h₀ h₀ i₀ i₀ t₀ t₀ (Refused (record { number = wrongSize; place = 0 }))
   half-short h = refusal wrongSize 0 (unfold readerOf in simp (lt-ltb (length h₀) roomForHalfBreadths h, chosen))
@@ -89,7 +89,9 @@ module _ (text h₀ : List ℕ) (i₀ t₀ : List ℤ) where
             let lt : 8 * t ≤ length tanks = omega arith in
             record {
               answer-is = rw (read-is, same-hull, counted i 4 items (omega arith) li, counted t 8 tanks (omega arith) lt);
-              half-breadths-left = rw read-is (front p (map natAbs (take p half)) h₀ h (length-map (take p half) natAbs ∙ length-take-le p half lp) a);
-              items-left = rw read-is (front (4 * i) (take (4 * i) items) i₀ j (length-take-le (4 * i) items li) b);
-              tanks-left = rw read-is (front (8 * t) (take (8 * t) tanks) t₀ k (length-take-le (8 * t) tanks lt) c);
+              tables-are = record {
+                half-breadths-left = rw read-is (front p (map natAbs (take p half)) h₀ h (length-map (take p half) natAbs ∙ length-take-le p half lp) a);
+                items-left = rw read-is (front (4 * i) (take (4 * i) items) i₀ j (length-take-le (4 * i) items li) b);
+                tanks-left = rw read-is (front (8 * t) (take (8 * t) tanks) t₀ k (length-take-le (8 * t) tanks lt) c);
+              };
             }

@@ -51,9 +51,9 @@ reads-contents : {text h₀ h' : List ℕ} {i₀ i' t₀ t' : List ℤ} {answer 
 unfolding summarised filled
 reads-contents {answer = answer} c e r = record {
   answer-is = read-paper-injective answer (Sheet (summaryOf c)) (r .answer-is ∙ rw e);
-  half-breadths-are = r .half-breadths-left ∙ rw e;
-  items-are = r .items-left ∙ rw e;
-  tanks-are = r .tanks-left ∙ rw e;
+  half-breadths-are = r .tables-are .half-breadths-left ∙ rw e;
+  items-are = r .tables-are .items-left ∙ rw e;
+  tanks-are = r .tables-are .tanks-left ∙ rw e;
 }
 
 -- ---- from the writer to the reader

@@ -36,5 +36,9 @@ writes-unique {a = a} {a' = a'} w v = (written-paper-injective a a' (only (w .an
 
 pub reads-unique : {text h₀ h h' : List ℕ} {i₀ i i' t₀ t t' : List ℤ} {a a' : Read}
     → Reads text h₀ h i₀ i t₀ t a → Reads text h₀ h' i₀ i' t₀ t' a' → (a ≡ a') × (h ≡ h') × (i ≡ i') × (t ≡ t')
-reads-unique {a = a} {a' = a'} r q =
-    (read-paper-injective a a' (only (r .answer-is) (q .answer-is)), only (r .half-breadths-left) (q .half-breadths-left), only (r .items-left) (q .items-left), only (r .tanks-left) (q .tanks-left))
+reads-unique {a = a} {a' = a'} r q = (
+  read-paper-injective a a' (only (r .answer-is) (q .answer-is)),
+  only (r .tables-are .half-breadths-left) (q .tables-are .half-breadths-left),
+  only (r .tables-are .items-left) (q .tables-are .items-left),
+  only (r .tables-are .tanks-left) (q .tables-are .tanks-left),
+)

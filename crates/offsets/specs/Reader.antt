@@ -57,8 +57,12 @@ unfoldable pub filled : {A : Type 0} → (Contents → List A) → Outcome Conte
 filled part (answered c) was = part c ++ drop (length (part c)) was
 filled part (refused number place) was = was
 
+-- the three lent tables afterwards
+pub record ReadInto (outcome : Outcome Contents) (halfBreadths halfBreadthsAfter : List ℕ) (items itemsAfter tanks tanksAfter : List ℤ) : Type 0 where
+  pub half-breadths-left : halfBreadthsAfter ≡ filled (λ c. map natAbs (c .halfBreadths)) outcome halfBreadths
+  pub items-left : itemsAfter ≡ filled (λ c. c .items) outcome items
+  pub tanks-left : tanksAfter ≡ filled (λ c. c .tanks) outcome tanks
+
 pub record Reads (text : List ℕ) (halfBreadths halfBreadthsAfter : List ℕ) (items itemsAfter tanks tanksAfter : List ℤ) (answer : Read) : Type 0 where
   pub answer-is : paper answer ≡ summarised (readerOf text (length halfBreadths) (length items) (length tanks))
-  pub half-breadths-left : halfBreadthsAfter ≡ filled (λ c. map natAbs (c .halfBreadths)) (readerOf text (length halfBreadths) (length items) (length tanks)) halfBreadths
-  pub items-left : itemsAfter ≡ filled (λ c. c .items) (readerOf text (length halfBreadths) (length items) (length tanks)) items
-  pub tanks-left : tanksAfter ≡ filled (λ c. c .tanks) (readerOf text (length halfBreadths) (length items) (length tanks)) tanks
+  pub tables-are : ReadInto (readerOf text (length halfBreadths) (length items) (length tanks)) halfBreadths halfBreadthsAfter items itemsAfter tanks tanksAfter

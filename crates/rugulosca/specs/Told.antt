@@ -1,17 +1,15 @@
 -- How an outcome is told by numbers alone: 0 and the values of the answer, or the refusal's number and its place. What is not
 -- told stays as it was.
 use Prim.Native.Nat.{ℕ}
-use mathlib.Core.List.{List, [], _∷_, map}
+use mathlib.Core.List.{List, [], _∷_}
 use mathlib.Core.Path.{_≡_}
 use lib.Ieee.{Float}
-use lib.IntN.{ℤ, natAbs}
+use lib.IntN.{ℤ}
 use lib.ListN.{getD}
 use Rattle.hydrostatics.specs.declared.Figures.{Figures}
 use Rattle.loading.specs.declared.Condition.{Condition}
 use Rattle.loading.specs.declared.Heel.{Heel}
 use Rattle.loading.specs.declared.Heel.the-variants.{Unstable, Upright, Heeled, Beyond}
-use Rattle.offsets.specs.File.{Contents}
-use Rattle.offsets.specs.Reader.{filled}
 use Rattle.offsets.specs.declared.Summary.{Summary}
 use Rattle.report.specs.Lines.{mark}
 use Rattle.ranges.specs.Outcome.{Outcome, answered, refused}
@@ -38,12 +36,6 @@ pub record Tells {A B : Type 0} (value : A → B) (outcome : Outcome A) (was lef
 -- the hull's particulars, from five numbers in the file's order
 abbrev pub particularsOf : List ℕ → Particulars
 particularsOf five = record { n = getD five 0 0; m = getD five 1 0; s = getD five 2 0; d = getD five 3 0; density = getD five 4 0 }
-
--- the reader's three tables afterwards
-pub record ReadInto (outcome : Outcome Contents) (halfBreadths halfBreadthsLeft : List ℕ) (items itemsLeft tanks tanksLeft : List ℤ) : Type 0 where
-  pub half-breadths-left : halfBreadthsLeft ≡ filled (λ c. map natAbs (c .halfBreadths)) outcome halfBreadths
-  pub items-left : itemsLeft ≡ filled (λ c. c .items) outcome items
-  pub tanks-left : tanksLeft ≡ filled (λ c. c .tanks) outcome tanks
 
 -- the five particulars, the count of items and the count of tanks
 abbrev pub summaryNumbers : Summary → List ℕ

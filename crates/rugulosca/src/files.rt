@@ -1,9 +1,9 @@
 // The offset file: reader and writer.
 ghost use mathlib.Core.Path.{_≡_};
 ghost use lib.ListN.{length};
-ghost use Rattle.offsets.specs.Reader.{readerOf, summarised};
+ghost use Rattle.offsets.specs.Reader.{ReadInto, readerOf, summarised};
 ghost use Rattle.offsets.specs.Writer.{writerOf, lengthOf, roomAfter};
-ghost use Rattle.rugulosca.specs.Told.{Tells, ReadInto, particularsOf, summaryNumbers};
+ghost use Rattle.rugulosca.specs.Told.{Tells, particularsOf, summaryNumbers};
 use crate::ANSWERED;
 use crate::hulls::particulars_of;
 use offsets::Read;

@@ -28,7 +28,7 @@ same-length-3 c = search needs
 returns : tie.Need-returns
 returns c =
     let read = c .before .before .before .before .before .before .before .before .before .read-file .ensures in
-    (told summaryNumbers (sym (ap paper (c .before .before .before .s .given .1)) ∙ read .answer-is), record { half-breadths-left = read .half-breadths-left; items-left = read .items-left; tanks-left = read .tanks-left })
+    (told summaryNumbers (sym (ap paper (c .before .before .before .s .given .1)) ∙ read .answer-is), read .tables-are)
 
 same-length-4 : tie.Need-same-length-4
 same-length-4 c = search needs
@@ -42,7 +42,7 @@ same-length-6 c = search needs
 returns-2 : tie.Need-returns-2
 returns-2 c =
     let read = c .before .before .before .before .before .before .before .read-file .ensures in
-    (declined summaryNumbers (sym (ap paper (c .before .refusal .given .1)) ∙ read .answer-is), record { half-breadths-left = read .half-breadths-left; items-left = read .items-left; tanks-left = read .tanks-left })
+    (declined summaryNumbers (sym (ap paper (c .before .refusal .given .1)) ∙ read .answer-is), read .tables-are)
 
 pub rugulosca-read-spec : {M : Type 1} → statement M
 rugulosca-read-spec =
