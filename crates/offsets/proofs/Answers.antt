@@ -16,11 +16,12 @@ use lib.ListN.{length, take, drop, getD, length-map}
 use lib.Seq.{getD-take, length-take-le}
 use Rattle.arithmetic.proofs.Choice.{chosen}
 use Rattle.ranges.specs.Outcome.{Outcome, answered, refused}
+use Rattle.ranges.specs.Outside.{particularsOf}
 use Rattle.ranges.specs.Refusals.{fileTooLong, wrongSize}
 use Rattle.ranges.specs.Sizes.{longestFile, roomForHalfBreadths, roomForItems, roomForTanks}
 use Rattle.ranges.specs.declared.Refusal.{Refusal}
 use Rattle.offsets.specs.File.{Contents, file}
-use Rattle.offsets.specs.Reader.{readerOf, particularsOf, summaryOf, summarised, paper, filled, Reads}
+use Rattle.offsets.specs.Reader.{readerOf, summaryOf, summarised, paper, filled, Reads}
 use Rattle.offsets.specs.Private.Steps.{Sized, Rooms, Parses, onParsed}
 use Rattle.offsets.specs.Tokens.{tokens}
 use Rattle.offsets.specs.declared.Read.{Read}

@@ -15,11 +15,12 @@ use lib.ListN.{length, take, drop, length-map}
 use lib.Seq.{take-at}
 use Rattle.ranges.specs.Fields.{item, tank}
 use Rattle.ranges.specs.Outcome.{Outcome, answered, refused}
+use Rattle.ranges.specs.Outside.{particularsOf}
 use Rattle.ranges.specs.Sizes.{longestFile, pointsOf, roomForHalfBreadths, roomForItems, roomForTanks}
 use Rattle.ranges.specs.declared.Particulars.{Particulars}
 use Rattle.ranges.proofs.Outcomes.{refused-not, not-refused}
 use Rattle.offsets.specs.File.{Contents}
-use Rattle.offsets.specs.Reader.{Reads, readerOf, particularsOf, summarised, filled, summaryOf}
+use Rattle.offsets.specs.Reader.{Reads, readerOf, summarised, filled, summaryOf}
 use Rattle.offsets.specs.Tokens.{tokens}
 use Rattle.offsets.specs.Written.{textOf}
 use Rattle.offsets.specs.Writer.{Writes, writerOf, lengthOf, roomAfter}

@@ -16,13 +16,13 @@ use lib.IntN.{ℤ, pos, natAbs}
 use lib.ListN.{length, length-map}
 use Rattle.ranges.specs.Fields.{Range, particulars, halfBreadth, item, tank}
 use Rattle.ranges.specs.Outcome.{answered}
-use Rattle.ranges.specs.Outside.{firstOutside, numbersOf}
+use Rattle.ranges.specs.Outside.{firstOutside, numbersOf, particularsOf}
 use Rattle.ranges.specs.Sizes.{longestFile, wholeRecords, mostItems, mostTanks}
 use Rattle.ranges.specs.declared.Particulars.{Particulars}
 use Rattle.ranges.proofs.Facts.{records-are}
 use Rattle.offsets.specs.File.{Contents, records, points, file}
 use Rattle.offsets.specs.Private.Putting.{Passes}
-use Rattle.offsets.specs.Reader.{particularsOf, summaryOf}
+use Rattle.offsets.specs.Reader.{summaryOf}
 use Rattle.offsets.specs.Tokens.{tokens}
 use Rattle.offsets.specs.Written.{lines, counted, sectionText, textOf}
 use Rattle.offsets.specs.Writer.{writerOf}

@@ -3,19 +3,18 @@ use Prim.Native.Nat.{ℕ, _/_}
 use mathlib.Core.Path.{_≡_}
 use mathlib.Core.List.{List, _++_, map}
 use lib.Dec.{ltb}
-use lib.IntN.{ℤ, pos, natAbs}
-use lib.ListN.{length, getD, drop}
+use lib.IntN.{ℤ, natAbs}
+use lib.ListN.{length, drop}
 use Rattle.arithmetic.specs.Choice.{if_then_else_}
-use Rattle.ranges.specs.Fields.{item, tank}
 use Rattle.ranges.specs.Outcome.{Outcome, answered, refused}
+use Rattle.ranges.specs.Outside.{particularsOf}
 use Rattle.ranges.specs.Refusals.{fileTooLong, wrongSize, halfBreadthTable, itemTable, tankTable}
-use Rattle.ranges.specs.Sizes.{longestFile, roomForHalfBreadths, roomForItems, roomForTanks}
+use Rattle.ranges.specs.Sizes.{longestFile, itemWidth, tankWidth, roomForHalfBreadths, roomForItems, roomForTanks}
 use Rattle.offsets.specs.File.{Contents, file}
 use Rattle.offsets.specs.Tokens.{tokens}
 use Rattle.offsets.specs.declared.Read.{Read}
 use Rattle.offsets.specs.declared.Read.the-variants.{Sheet, Refused}
 use Rattle.offsets.specs.declared.Summary.{Summary}
-use Rattle.ranges.specs.declared.Particulars.{Particulars}
 
 -- "Reader: 7 (room below 861, 128 or 128 numbers), 1, then left to right", by the text and the lengths of the tables
 unfoldable pub readerOf : List ℕ → ℕ → ℕ → ℕ → Outcome Contents
@@ -27,20 +26,11 @@ readerOf text halfBreadths items tanks =
     else file (length text) (tokens text)
 
 -- "the reader answers the particulars and the counts of items and tanks"
-abbrev pub particularsOf : List ℤ → Particulars
-particularsOf hull = record {
-  n = natAbs (getD hull 0 (pos 0));
-  m = natAbs (getD hull 1 (pos 0));
-  s = natAbs (getD hull 2 (pos 0));
-  d = natAbs (getD hull 3 (pos 0));
-  density = natAbs (getD hull 4 (pos 0));
-}
-
 abbrev pub summaryOf : Contents → Summary
 summaryOf c = record {
   particulars = particularsOf (c .hull);
-  items = length (c .items) / length item;
-  tanks = length (c .tanks) / length tank;
+  items = length (c .items) / itemWidth;
+  tanks = length (c .tanks) / tankWidth;
 }
 
 unfoldable pub summarised : Outcome Contents → Outcome Summary

@@ -42,14 +42,14 @@ use Rattle.offsets.proofs.Calls.{contents-read}
 use Rattle.offsets.proofs.Sound.{hull-most, points-le}
 use Rattle.ranges.specs.Outcome.{Outcome, answered, refused}
 use Rattle.ranges.specs.Refusals.{roomTooShort}
-use Rattle.ranges.specs.Sizes.{roomForHalfBreadths, roomForItems, roomForTanks}
+use Rattle.ranges.specs.Sizes.{roomForHalfBreadths, roomForItems, roomForTanks, roomForRows}
 use Rattle.ranges.specs.declared.Particulars.{Particulars}
 use Rattle.ranges.specs.declared.Refusal.{Refusal}
 use Rattle.ranges.proofs.Outcomes.{refused-not, answer-same, not-refused}
 use Rattle.report.specs.Lines.{conditionLine, refusalLine}
 use Rattle.report.specs.Promise.{reportOf, Reports}
 use Rattle.report.specs.Private.Putting.{Ready, Puts, WholeRows, longestSheet, mostConditionLine, mostRefusalLine, mostRowLine}
-use Rattle.report.specs.Sheet.{rowLines, conditionSaid, rowsSaid, roomForRows, fileSaid, sheetOf}
+use Rattle.report.specs.Sheet.{rowLines, conditionSaid, rowsSaid, fileSaid, sheetOf}
 use Rattle.report.specs.declared.Report.{Report}
 use Rattle.report.specs.declared.Report.the-variants.{Lines, Refused}
 use Rattle.report.proofs.Pieces.{puts-both, puts-le}

@@ -8,9 +8,10 @@ use Rattle.hydrostatics.specs.Usable.{rowIn}
 use Rattle.loading.specs.Condition.{conditionOf}
 use Rattle.loading.specs.declared.Condition.{Condition}
 use Rattle.offsets.specs.File.{Contents}
-use Rattle.offsets.specs.Reader.{readerOf, particularsOf}
+use Rattle.offsets.specs.Reader.{readerOf}
 use Rattle.ranges.specs.Outcome.{Outcome, answered, refused}
-use Rattle.ranges.specs.Sizes.{roomForHalfBreadths, roomForItems, roomForTanks}
+use Rattle.ranges.specs.Outside.{particularsOf}
+use Rattle.ranges.specs.Sizes.{rowWidth, roomForHalfBreadths, roomForItems, roomForTanks, roomForRows}
 use Rattle.report.specs.Lines.{rowLine, conditionLine, refusalLine}
 
 -- the lines of so many rows from row `from` on
@@ -25,12 +26,8 @@ conditionSaid (refused number place) = refusalLine number place
 
 -- the R lines and what follows them, or the E line
 unfoldable pub rowsSaid : List ℤ → List ℤ → Outcome (List ℕ) → List ℕ
-rowsSaid items tanks (answered rows) = rowLines rows 0 (length rows / 7) ++ conditionSaid (conditionOf items tanks rows)
+rowsSaid items tanks (answered rows) = rowLines rows 0 (length rows / rowWidth) ++ conditionSaid (conditionOf items tanks rows)
 rowsSaid items tanks (refused number place) = refusalLine number place
-
--- room for the rows of the largest hull: 19 of them
-abbrev pub roomForRows : ℕ
-roomForRows = 133
 
 unfoldable pub fileSaid : Outcome Contents → List ℕ
 fileSaid (answered c) = rowsSaid (c .items) (c .tanks) (rowsOf (map natAbs (c .halfBreadths)) (particularsOf (c .hull)) roomForRows)

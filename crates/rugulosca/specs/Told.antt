@@ -5,7 +5,6 @@ use mathlib.Core.List.{List, [], _∷_}
 use mathlib.Core.Path.{_≡_}
 use lib.Ieee.{Float}
 use lib.IntN.{ℤ}
-use lib.ListN.{getD}
 use Rattle.hydrostatics.specs.declared.Figures.{Figures}
 use Rattle.loading.specs.declared.Condition.{Condition}
 use Rattle.loading.specs.declared.Heel.{Heel}
@@ -13,7 +12,6 @@ use Rattle.loading.specs.declared.Heel.the-variants.{Unstable, Upright, Heeled,
 use Rattle.offsets.specs.declared.Summary.{Summary}
 use Rattle.report.specs.Lines.{mark}
 use Rattle.ranges.specs.Outcome.{Outcome, answered, refused}
-use Rattle.ranges.specs.declared.Particulars.{Particulars}
 
 abbrev pub numberOf : {A : Type 0} → Outcome A → ℕ
 numberOf (answered a) = 0
@@ -32,10 +30,6 @@ pub record Tells {A B : Type 0} (value : A → B) (outcome : Outcome A) (was lef
   pub number-is : number ≡ numberOf outcome
   pub place-is : placeLeft ≡ placeAfter outcome place
   pub value-is : left ≡ valueAfter value outcome was
-
--- the hull's particulars, from five numbers in the file's order
-abbrev pub particularsOf : List ℕ → Particulars
-particularsOf five = record { n = getD five 0 0; m = getD five 1 0; s = getD five 2 0; d = getD five 3 0; density = getD five 4 0 }
 
 -- the five particulars, the count of items and the count of tanks
 abbrev pub summaryNumbers : Summary → List ℕ

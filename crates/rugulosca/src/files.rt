@@ -1,9 +1,12 @@
 // The offset file: reader and writer.
 ghost use mathlib.Core.Path.{_≡_};
+ghost use mathlib.Core.List.{map};
+ghost use lib.IntN.{pos};
 ghost use lib.ListN.{length};
+ghost use Rattle.ranges.specs.Outside.{particularsOf};
 ghost use Rattle.offsets.specs.Reader.{ReadInto, readerOf, summarised};
 ghost use Rattle.offsets.specs.Writer.{writerOf, lengthOf, roomAfter};
-ghost use Rattle.rugulosca.specs.Told.{Tells, particularsOf, summaryNumbers};
+ghost use Rattle.rugulosca.specs.Told.{Tells, summaryNumbers};
 use crate::ANSWERED;
 use crate::hulls::particulars_of;
 use offsets::Read;
@@ -54,8 +57,8 @@ pub extern "C" fn rugulosca_write(
     count: &mut usize,
     place: &mut usize,
 ) -> u64
-    ensures { λ r. ⌜ Tells (λ n. n) (lengthOf (writerOf (particularsOf (now (particulars .entry))) (now («half_breadths» .entry)) (now (items .entry)) (now (tanks .entry)) (length (now (room .entry))))) (now (count .entry)) (now (count .exit)) (now (place .entry)) (now (place .exit)) r ⌝ }
-    ensures { λ _. ⌜ now (room .exit) ≡ roomAfter (writerOf (particularsOf (now (particulars .entry))) (now («half_breadths» .entry)) (now (items .entry)) (now (tanks .entry)) (length (now (room .entry)))) (now (room .entry)) ⌝ }
+    ensures { λ r. ⌜ Tells (λ n. n) (lengthOf (writerOf (particularsOf (map pos (now (particulars .entry)))) (now («half_breadths» .entry)) (now (items .entry)) (now (tanks .entry)) (length (now (room .entry))))) (now (count .entry)) (now (count .exit)) (now (place .entry)) (now (place .exit)) r ⌝ }
+    ensures { λ _. ⌜ now (room .exit) ≡ roomAfter (writerOf (particularsOf (map pos (now (particulars .entry)))) (now («half_breadths» .entry)) (now (items .entry)) (now (tanks .entry)) (length (now (room .entry)))) (now (room .entry)) ⌝ }
 {
     match offsets::write_file(
         particulars_of(particulars),

@@ -1,11 +1,14 @@
 // The rows of a hull, and one row for display.
 ghost use mathlib.Core.Path.{_≡_};
+ghost use mathlib.Core.List.{map};
+ghost use lib.IntN.{pos};
 ghost use lib.ListN.{length};
 ghost use Rattle.hydrostatics.specs.Display.{displayOf};
 ghost use Rattle.hydrostatics.specs.Promise.{countOf, tableAfter};
 ghost use Rattle.hydrostatics.specs.Rows.{rowsOf};
 ghost use Rattle.hydrostatics.specs.Usable.{rowIn};
-ghost use Rattle.rugulosca.specs.Told.{Tells, particularsOf, figureNumbers};
+ghost use Rattle.ranges.specs.Outside.{particularsOf};
+ghost use Rattle.rugulosca.specs.Told.{Tells, figureNumbers};
 use crate::ANSWERED;
 use hydrostatics::Display;
 use hydrostatics::Row;
@@ -14,7 +17,7 @@ use ranges::Particulars;
 
 // Five numbers as a hull's particulars.
 pub(crate) fn particulars_of(five: &[u64; 5]) -> Particulars
-    ensures { λ r. ⌜ r ≡ particularsOf (now (five .entry)) ⌝ }
+    ensures { λ r. ⌜ r ≡ particularsOf (map pos (now (five .entry))) ⌝ }
 {
     Particulars {
         n: five[0] as usize,
@@ -34,8 +37,8 @@ pub extern "C" fn rugulosca_rows(
     count: &mut usize,
     place: &mut usize,
 ) -> u64
-    ensures { λ r. ⌜ Tells (λ n. n) (countOf (rowsOf (now («half_breadths» .entry)) (particularsOf (now (particulars .entry))) (length (now (rows .entry))))) (now (count .entry)) (now (count .exit)) (now (place .entry)) (now (place .exit)) r ⌝ }
-    ensures { λ _. ⌜ now (rows .exit) ≡ tableAfter (rowsOf (now («half_breadths» .entry)) (particularsOf (now (particulars .entry))) (length (now (rows .entry)))) (now (rows .entry)) ⌝ }
+    ensures { λ r. ⌜ Tells (λ n. n) (countOf (rowsOf (now («half_breadths» .entry)) (particularsOf (map pos (now (particulars .entry)))) (length (now (rows .entry))))) (now (count .entry)) (now (count .exit)) (now (place .entry)) (now (place .exit)) r ⌝ }
+    ensures { λ _. ⌜ now (rows .exit) ≡ tableAfter (rowsOf (now («half_breadths» .entry)) (particularsOf (map pos (now (particulars .entry)))) (length (now (rows .entry)))) (now (rows .entry)) ⌝ }
 {
     match hydrostatics::make_rows(half_breadths, particulars_of(particulars), rows) {
         Rows::Made(made) => {
