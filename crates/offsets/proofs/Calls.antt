@@ -1,6 +1,4 @@
 -- The round trip for the two calls, over what they promise: whatever keeps the promises gives back what it was given.
---     Rooms                           tables that the reader can fill from any file
---     ReadBack                        a reader's answer and tables that say these particulars and tables
 --     write-then-read                 what was written is read back
 --     ReadContents, contents-read     what a reader with a summary read: sound contents, which stand in front of its tables
 --     WrittenAgain                    a writer's answer whose text is read back so
@@ -19,6 +17,7 @@ use Rattle.ranges.specs.Outside.{particularsOf}
 use Rattle.ranges.specs.Sizes.{longestFile, pointsOf, roomForHalfBreadths, roomForItems, roomForTanks}
 use Rattle.ranges.specs.declared.Particulars.{Particulars}
 use Rattle.ranges.proofs.Outcomes.{refused-not, not-refused}
+use Rattle.offsets.specs.Back.{RoomForAnyFile, ReadBack, summaryWith}
 use Rattle.offsets.specs.File.{Contents}
 use Rattle.offsets.specs.Reader.{Reads, readerOf, summarised, filled, summaryOf}
 use Rattle.offsets.specs.Tokens.{tokens}
@@ -33,17 +32,6 @@ use Rattle.offsets.proofs.Answers.{on-file}
 use Rattle.offsets.proofs.RoundTrip.{contentsOf, written-is-read, read-is-written}
 use Rattle.offsets.proofs.Sound.{Sound, recordsIn, length-of-half-breadths, length-of-items, length-of-tanks, file-sound}
 use Rattle.offsets.proofs.Unique.{read-paper-injective, written-paper-injective}
-
-pub record Rooms (h : List ℕ) (i t : List ℤ) : Type 0 where
-  pub half-breadth-room : roomForHalfBreadths ≤ length h
-  pub item-room : roomForItems ≤ length i
-  pub tank-room : roomForTanks ≤ length t
-
-pub record ReadBack (summary : Summary) (h : List ℕ) (i t : List ℤ) (h₀ h' : List ℕ) (i₀ i' t₀ t' : List ℤ) (answer : Read) : Type 0 where
-  pub answer-is : answer ≡ Sheet summary
-  pub half-breadths-are : h' ≡ h ++ drop (length h) h₀
-  pub items-are : i' ≡ i ++ drop (length i) i₀
-  pub tanks-are : t' ≡ t ++ drop (length t) t₀
 
 -- a reader that read contents answers and leaves them
 reads-contents : {text h₀ h' : List ℕ} {i₀ i' t₀ t' : List ℤ} {answer : Read} (c : Contents)
@@ -80,8 +68,8 @@ sizes-again [] = refl
 sizes-again (y ∷ h) = ap (λ l. y ∷ l) (sizes-again h)
 
 pub write-then-read : {p : Particulars} {h : List ℕ} {i t : List ℤ} {room roomLeft : List ℕ} {count : ℕ} {h₀ h' : List ℕ} {i₀ i' t₀ t' : List ℤ} {answer : Read}
-    → Writes p h i t room roomLeft (Wrote count) → Rooms h₀ i₀ t₀ → Reads (take count roomLeft) h₀ h' i₀ i' t₀ t' answer
-    → ReadBack (record { particulars = p; items = length i / 4; tanks = length t / 8 }) h i t h₀ h' i₀ i' t₀ t' answer
+    → Writes p h i t room roomLeft (Wrote count) → RoomForAnyFile h₀ i₀ t₀ → Reads (take count roomLeft) h₀ h' i₀ i' t₀ t' answer
+    → ReadBack (summaryWith p i t) h i t h₀ h' i₀ i' t₀ t' answer
 write-then-read {p} {h} {i} {t} {room} {h₀ = h₀} {i₀ = i₀} {t₀ = t₀} w rooms r =
     let x = text-of-writes w in
     let back = written-is-read p h i t (length room) (x .written) in
@@ -102,7 +90,7 @@ tanksRead summary = take (length tank * summary .tanks)
 pub record WrittenAgain (summary : Summary) (h : List ℕ) (i t : List ℤ) (roomLeft : List ℕ) (answer : Written) : Type 0 where
   pub count : ℕ
   pub answer-is : answer ≡ Wrote count
-  pub read-back : {h₀ h' : List ℕ} {i₀ i' t₀ t' : List ℤ} {answer : Read} → Rooms h₀ i₀ t₀ → Reads (take count roomLeft) h₀ h' i₀ i' t₀ t' answer → ReadBack summary h i t h₀ h' i₀ i' t₀ t' answer
+  pub read-back : {h₀ h' : List ℕ} {i₀ i' t₀ t' : List ℤ} {answer : Read} → RoomForAnyFile h₀ i₀ t₀ → Reads (take count roomLeft) h₀ h' i₀ i' t₀ t' answer → ReadBack summary h i t h₀ h' i₀ i' t₀ t' answer
 
 -- what was read, written from tables that hold just that
 rewritten : (c : Contents) → Sound c → {room roomLeft : List ℕ} {answer : Written}

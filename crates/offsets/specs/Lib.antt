@@ -5,4 +5,5 @@ pub mod File
 pub mod Reader
 pub mod Written
 pub mod Writer
+pub mod Back
 pub mod Private

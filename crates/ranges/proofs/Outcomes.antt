@@ -3,10 +3,11 @@
 --     answer-same                  equal answers have one value
 --     refusal-same                 a refusal is known from its number and place
 --     not-refused, was-passed      before an answer a test gave no refusal, where it refuses when true and when false
+--     was-refused                  what is refused after a test whose other way answers was refused by the test
 --     answered-then                what is answered in the end was answered on the way
 --     then-assoc                   three steps, joined from either end
 -- Assumes nothing.
-use mathlib.Core.Path.{_≡_, refl, ap₂}
+use mathlib.Core.Path.{_≡_, refl, sym, ap₂}
 use mathlib.Core.Bool.{Bool, true, false}
 use Prim.Native.Nat.{ℕ}
 use native.Mathlib.Omega.{arith}
@@ -33,6 +34,11 @@ pub was-passed : {A : Type 0} {t : Bool} {other : Outcome A} {a : A} (number pla
 unfolding if_then_else_
 was-passed {t = true} number place e = (refl, e)
 was-passed {t = false} number place e = refused-not e
+
+pub was-refused : {A : Type 0} {t : Bool} {n p : ℕ} (number place : ℕ) (a : A) → (if t then refused number place else answered a) ≡ refused n p → t ≡ true
+unfolding if_then_else_
+was-refused {t = true} number place a e = refl
+was-refused {t = false} number place a e = refused-not (sym e)
 
 -- ---- steps
 pub answered-then : {A B : Type 0} {o : Outcome A} {next : A → Outcome B} {b : B} → andThen o next ≡ answered b → (a : A) × (o ≡ answered a) × (next a ≡ answered b)

@@ -1,0 +1,68 @@
+-- The three demands are met.
+--     demands-met        all of `Demands`, from the theorems of the crates below
+-- Assumes nothing.
+use mathlib.Core.Path.{_≡_, sym, ap, _∙_}
+use mathlib.Core.List.{List}
+use Prim.Native.Nat.{ℕ, _≤_}
+use lib.IntN.{ℤ, pos}
+use Rattle.simpson.specs.Cubic.{cubic, area}
+use Rattle.simpson.specs.Curve.{curve}
+use Rattle.simpson.proofs.Moments.{curve-exact}
+use Rattle.offsets.proofs.Calls.{write-then-read}
+use Rattle.hydrostatics.specs.Hull.{halfBreadth, Q}
+use Rattle.hydrostatics.proofs.Exchange.{Q-is}
+use Rattle.hydrostatics.proofs.MadeRows.{made-rows}
+use Rattle.ranges.specs.Outcome.{answered}
+use Rattle.ranges.specs.declared.Particulars.{Particulars}
+use Rattle.loading.specs.Condition.{conditionOf}
+use Rattle.loading.specs.Demand.{LoweredTables, NoWorse}
+use Rattle.loading.specs.declared.Answer.{Answer}
+use Rattle.loading.specs.declared.Answer.the-variants.{Laden}
+use Rattle.loading.specs.declared.Condition.{Condition}
+use Rattle.loading.proofs.Answers.{answer-says}
+use Rattle.loading.proofs.Demand3 as Third
+use Rattle.loading.proofs.Demand3.{ConditionOver}
+use Rattle.loading.proofs.Unique.{paper-injective}
+use Rattle.demands.specs.Demands.{Conditioned, IsCondition, Demand1, Demand2, Demand3, Demands}
+use Rattle.demands.proofs.Answering.{sheet-answers, reader-answers, writer-answers, rows-answer, display-answers, condition-answers}
+
+demand-1 : Demand1
+demand-1 = record {
+  of-the-sheet = sheet-answers;
+  of-the-reader = reader-answers;
+  of-the-writer = writer-answers;
+  of-the-rows = rows-answer;
+  of-the-display = display-answers;
+  of-the-condition = condition-answers;
+}
+
+-- a condition that the call answered, over its rows
+over : {items tanks : List ℤ} {rows : List ℕ} {c : Condition} → IsCondition items tanks rows c → ConditionOver rows c
+over {items} {tanks} k = record { items = items; tanks = tanks; given = sym (k .answer-is) }
+
+demand-2 : Demand2
+demand-2 = record {
+  rows-follow-the-rules = made-rows;
+  conditions-follow-the-formulas = λ {items} {tanks} {rows} k. (answer-says items tanks rows (sym (k .answer-is)) .1, Third.draft-is-greatest (over k));
+  cubics-get-their-areas = curve-exact;
+  waterlines-get-their-areas = λ table p k a b c e some is. ap pos (Q-is table p k) ∙ curve-exact (p .n) (λ i. halfBreadth table p i k) a b c e some is;
+  what-is-written-is-read-back = write-then-read;
+}
+
+lowering : {items′ tanks′ items tanks : List ℤ} {rows : List ℕ} {c : Condition} {answer : Answer}
+    → IsCondition items tanks rows c → LoweredTables items′ tanks′ items tanks → Conditioned items′ tanks′ rows answer → (d : Condition) × (answer ≡ Laden d) × NoWorse d c
+lowering {rows = rows} {answer = answer} k low again =
+    let lowered = Third.lowering-never-costs-the-answer rows (sym (k .answer-is)) low in
+    (lowered .0, paper-injective answer (Laden (lowered .0)) (again .answer-is ∙ lowered .1), lowered .2)
+
+demand-3 : Demand3
+unfolding over
+demand-3 = record {
+  heavier-never-floats-higher = λ k l. Third.heavier-never-floats-higher (over k) (over l);
+  equal-weights-float-alike = λ k l. Third.equal-weights-float-alike (over k) (over l);
+  lowering-never-costs-the-answer = lowering;
+  gm-is-close = λ k. Third.gm-is-close (over k);
+}
+
+pub demands-met : Demands
+demands-met = record { demand-1 = demand-1; demand-2 = demand-2; demand-3 = demand-3 }

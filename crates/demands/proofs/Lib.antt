@@ -1,0 +1,4 @@
+-- That the demands are met.
+pub mod Backs
+pub mod Answering
+pub mod DemandsMet

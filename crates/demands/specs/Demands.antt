@@ -1,0 +1,109 @@
+-- The customer's three demands. Each sentence is a field, over any answers that keep the calls' promises; that all are met: `demands-met` of proofs/.
+-- Besides what is said here, each call returns on every input and is lent nothing on a condition: no function is accepted that may not end,
+-- and no public call has a `requires`.
+use mathlib.Core.Path.{_≡_}
+use mathlib.Core.List.{List}
+use Prim.Native.Nat.{ℕ, _≤_, _<_}
+use lib.IntN.{ℤ, pos}
+use lib.ListN.{length, take}
+use Rattle.ranges.specs.Sizes.{rowsOver, itemWidth, tankWidth}
+use Rattle.ranges.specs.declared.Particulars.{Particulars}
+use Rattle.simpson.specs.Cubic.{cubic, area}
+use Rattle.simpson.specs.Curve.{curve}
+use Rattle.offsets.specs.Back.{RoomForAnyFile, ReadBack, summaryWith}
+use Rattle.offsets.specs.Reader as Reader
+use Rattle.offsets.specs.Reader.{Reads}
+use Rattle.offsets.specs.Writer as Writer
+use Rattle.offsets.specs.Writer.{Writes}
+use Rattle.offsets.specs.declared.Read.{Read}
+use Rattle.offsets.specs.declared.Written.{Written}
+use Rattle.offsets.specs.declared.Written.the-variants.{Wrote}
+use Rattle.hydrostatics.specs.Display as Display
+use Rattle.hydrostatics.specs.Display.{displayOf}
+use Rattle.hydrostatics.specs.Hull.{halfBreadth, Q}
+use Rattle.hydrostatics.specs.Promise as Rows
+use Rattle.hydrostatics.specs.Promise.{MakesRows}
+use Rattle.hydrostatics.specs.Row.{rowOf}
+use Rattle.hydrostatics.specs.Usable.{rowIn}
+use Rattle.hydrostatics.specs.declared.Display.{Display as Displayed}
+use Rattle.hydrostatics.specs.declared.Row.{Row}
+use Rattle.hydrostatics.specs.declared.Rows.{Rows as MadeOrNot}
+use Rattle.hydrostatics.specs.declared.Rows.the-variants.{Made}
+use Rattle.loading.specs.Condition.{conditionAt}
+use Rattle.loading.specs.Demand.{LoweredTables, NoWorse}
+use Rattle.loading.specs.Fraction.{LessThanThreeBelow}
+use Rattle.loading.specs.Paper.{paperRules}
+use Rattle.loading.specs.Promise as Condition
+use Rattle.loading.specs.Promise.{MakesCondition}
+use Rattle.loading.specs.Records.{loadOf}
+use Rattle.loading.specs.Stability.{leastGM, heelLimit, unroundedGM}
+use Rattle.loading.specs.Straight.{Greatest}
+use Rattle.loading.specs.Table.{hull}
+use Rattle.loading.specs.declared.Answer.{Answer}
+use Rattle.loading.specs.declared.Answer.the-variants.{Laden}
+use Rattle.loading.specs.declared.Condition.{Condition as Conditions}
+use Rattle.report.specs.Promise as Report
+use Rattle.report.specs.Promise.{Reports}
+use Rattle.report.specs.declared.Report.{Report as Reported}
+use Rattle.demands.specs.Answering.{AnswersOrRefuses}
+
+-- an answer of the condition's call for these tables, and one that is a condition
+abbrev pub Conditioned : List ℤ → List ℤ → List ℕ → Answer → Type 0
+Conditioned items tanks rows answer = MakesCondition leastGM heelLimit items tanks rows answer
+
+abbrev pub IsCondition : List ℤ → List ℤ → List ℕ → Conditions → Type 0
+IsCondition items tanks rows c = Conditioned items tanks rows (Laden c)
+
+-- "1. Every file and every lent table gets either its answer or one numbered refusal, and the work always ends. The public calls test everything themselves.
+-- A refusal gives its number and its place, and the tables lent for writing hold what they held before."
+pub record Demand1 : Type 0 where
+  pub of-the-sheet : (text room : List ℕ)
+      → AnswersOrRefuses (λ (back : Reported × List ℕ). Reports text room (back .1) (back .0)) (λ back. Report.paper (back .0)) (λ back. back .1 ≡ room)
+  pub of-the-reader : (text halfBreadths : List ℕ) (items tanks : List ℤ)
+      → AnswersOrRefuses (λ (back : Read × List ℕ × List ℤ × List ℤ). Reads text halfBreadths (back .1) items (back .2) tanks (back .3) (back .0)) (λ back. Reader.paper (back .0)) (λ back. (back .1 ≡ halfBreadths) × (back .2 ≡ items) × (back .3 ≡ tanks))
+  pub of-the-writer : (p : Particulars) (halfBreadths : List ℕ) (items tanks : List ℤ) (room : List ℕ)
+      → AnswersOrRefuses (λ (back : Written × List ℕ). Writes p halfBreadths items tanks room (back .1) (back .0)) (λ back. Writer.paper (back .0)) (λ back. back .1 ≡ room)
+  pub of-the-rows : (halfBreadths : List ℕ) (p : Particulars) (rows : List ℕ)
+      → AnswersOrRefuses (λ (back : MadeOrNot × List ℕ). MakesRows halfBreadths p rows (back .1) (back .0)) (λ back. Rows.paper (back .0)) (λ back. back .1 ≡ rows)
+  -- these two are lent nothing for writing
+  pub of-the-display : (row : Row)
+      → AnswersOrRefuses (λ (answer : Displayed). Display.paper answer ≡ displayOf row) Display.paper (λ answer. Unit)
+  pub of-the-condition : (items tanks : List ℤ) (rows : List ℕ)
+      → AnswersOrRefuses (Conditioned items tanks rows) Condition.paper (λ answer. Unit)
+
+pub record Demand2 : Type 0 where
+  -- "2. Areas, volumes, centres and metacentric radii are those of Simpson's first and second rules as document 01 states them, at every count from 2 to 40 intervals."
+  pub rows-follow-the-rules : {halfBreadths : List ℕ} {p : Particulars} {rows after : List ℕ} {count : ℕ} → MakesRows halfBreadths p rows after (Made count)
+      → (count ≡ rowsOver (p .m)) × ((r : ℕ) → r < count → rowIn after r ≡ rowOf halfBreadths p r)
+  -- "A condition's draft, KM, GM and heel outcome follow its formulas."
+  pub conditions-follow-the-formulas : {items tanks : List ℤ} {rows : List ℕ} {c : Conditions} → IsCondition items tanks rows c
+      → (c ≡ conditionAt (hull rows) (loadOf items tanks)) × Greatest (hull rows) (c .weight) (c .draft)
+  -- "A half-breadth curve that is a polynomial of third degree or less, with whole-number coefficients, gets its exact area, before rounding, at each count."
+  pub cubics-get-their-areas : (n : ℕ) (y : ℕ → ℕ) (a b c e : ℤ) → 2 ≤ n → ((i : ℕ) → i ≤ n → pos (y i) ≡ cubic a b c e (pos i))
+      → pos (curve n y) ≡ area a b c e (pos n)
+  pub waterlines-get-their-areas : (halfBreadths : List ℕ) (p : Particulars) (k : ℕ) (a b c e : ℤ) → 2 ≤ p .n → ((i : ℕ) → i ≤ p .n → pos (halfBreadth halfBreadths p i k) ≡ cubic a b c e (pos i))
+      → pos (Q halfBreadths p k) ≡ area a b c e (pos (p .n))
+  -- "What the writer writes, the reader reads back as the same numbers."
+  pub what-is-written-is-read-back : {p : Particulars} {h : List ℕ} {i t : List ℤ} {room roomLeft : List ℕ} {count : ℕ} {h₀ h′ : List ℕ} {i₀ i′ t₀ t′ : List ℤ} {answer : Read}
+      → Writes p h i t room roomLeft (Wrote count) → RoomForAnyFile h₀ i₀ t₀ → Reads (take count roomLeft) h₀ h′ i₀ i′ t₀ t′ answer
+      → ReadBack (summaryWith p i t) h i t h₀ h′ i₀ i′ t₀ t′ answer
+
+pub record Demand3 : Type 0 where
+  -- "3. With one row table, the heavier of two answered conditions never has the smaller draft, and equal weights have the same draft and KM."
+  pub heavier-never-floats-higher : {items tanks items′ tanks′ : List ℤ} {rows : List ℕ} {c d : Conditions} → IsCondition items tanks rows c → IsCondition items′ tanks′ rows d
+      → c .weight ≤ d .weight → c .draft ≤ d .draft
+  pub equal-weights-float-alike : {items tanks items′ tanks′ : List ℤ} {rows : List ℕ} {c d : Conditions} → IsCondition items tanks rows c → IsCondition items′ tanks′ rows d
+      → c .weight ≡ d .weight → (c .draft ≡ d .draft) × (c .km ≡ d .km)
+  -- "Take an answered condition and only lower items or tanks, or reduce a tank's length, breadth or liquid density, each staying in its range.
+  -- GM does not fall, and a condition that passed still passes."
+  pub lowering-never-costs-the-answer : {items′ tanks′ items tanks : List ℤ} {rows : List ℕ} {c : Conditions} {answer : Answer} → IsCondition items tanks rows c
+      → LoweredTables items′ tanks′ items tanks → Conditioned items′ tanks′ rows answer
+      → (d : Conditions) × (answer ≡ Laden d) × NoWorse d c
+  -- "The GM given is never above the unrounded GM over the same rows, and less than 3 mm below it."
+  pub gm-is-close : {items tanks : List ℤ} {rows : List ℕ} {c : Conditions} → IsCondition items tanks rows c
+      → LessThanThreeBelow (c .gm) (unroundedGM paperRules (hull rows) (loadOf items tanks))
+
+pub record Demands : Type 0 where
+  pub demand-1 : Demand1
+  pub demand-2 : Demand2
+  pub demand-3 : Demand3
