@@ -1,4 +1,5 @@
 -- Rounding, told without division, and its laws.
+--     RoundedDown, RoundedUp  q is a / b rounded down, and up
 --     down-of, up-of          the quotient is rounded down; `roundedUp` is rounded up
 --     down-unique, up-unique  only one number is
 --     down-greatest           the whole numbers up to the one rounded down are those not above the fraction
@@ -10,13 +11,24 @@
 --     down-le-up              rounded down is at most rounded up, and the two are at most one apart
 -- How far each is from the fraction stands in the records themselves: less than the divisor, over the divisor.
 -- Assumes nothing.
-use mathlib.Core.Path.{_≡_, refl, subst}
+use mathlib.Core.Path.{_≡_, subst}
 use mathlib.Core.Logic.{_↔_}
-use Prim.Native.Nat.{ℕ, suc, _+_, _-_, _*_, _/_, _≤_, _<_}
-use native.Mathlib.Nat.{mul-le-mul-left, mul-le-mul-right, mul-add, add-mul, mul-comm, mul-one, one-mul, div-mul-le-self, lt-div-mul-add, lt-of-mul-lt-mul-right, le-antisymm}
-use native.Mathlib.Numerals.{suc-eq-add-one}
+use Prim.Native.Nat.{ℕ, _+_, _-_, _*_, _/_, _≤_, _<_}
+use native.Mathlib.Nat.{mul-le-mul-left, mul-le-mul-right, add-mul, mul-one, one-mul, div-mul-le-self, lt-div-mul-add, lt-of-mul-lt-mul-right, le-antisymm}
 use native.Mathlib.Omega.{arith}
-use Rattle.arithmetic.specs.Rounding.{roundedUp, RoundedDown, RoundedUp}
+use Rattle.arithmetic.specs.Rounding.{roundedUp}
+
+-- q is a / b rounded down: not above it, and less than one below it
+pub record RoundedDown (a b q : ℕ) : Type 0 where
+  pub some : 0 < b
+  pub low : q * b ≤ a
+  pub high : a < q * b + b
+
+-- q is a / b rounded up: not below it, and less than one above it
+pub record RoundedUp (a b q : ℕ) : Type 0 where
+  pub some : 0 < b
+  pub low : a ≤ q * b
+  pub high : q * b < a + b
 
 pub down-of : (a b : ℕ) → 0 < b → RoundedDown a b (a / b)
 down-of a b h = record { some = h; low = div-mul-le-self a b; high = lt-div-mul-add h }

@@ -16,10 +16,9 @@ use native.Mathlib.Omega.{arith}
 use borrow.Author.Tests.{ltb-true, ltb-false}
 use lib.Dec.{ltb}
 use Rattle.arithmetic.specs.Choice.{if_then_else_}
-use Rattle.arithmetic.specs.Rounding.{RoundedDown}
 use Rattle.arithmetic.proofs.Choice.{if-either}
 use Rattle.arithmetic.proofs.Ring.{ring}
-use Rattle.arithmetic.proofs.Rounding.{down-of, down-greatest}
+use Rattle.arithmetic.proofs.Rounding.{RoundedDown, down-of, down-greatest}
 use Rattle.hydrostatics.specs.declared.Row.{Row}
 use Rattle.loading.proofs.Laws.{Waterlines, last, next, Usable}
 use Rattle.loading.specs.Straight.{straightFrom, straight, InTable, Greatest}

@@ -4,7 +4,7 @@
 use mathlib.Core.Path.{_≡_}
 use mathlib.Core.List.{List, [], _∷_}
 use Prim.Native.Nat.{ℕ, _+_, _*_, _≤_, _<_}
-use Rattle.arithmetic.specs.Rounding.{RoundedDown}
+use Rattle.arithmetic.proofs.Rounding.{RoundedDown}
 use Rattle.hydrostatics.specs.declared.Row.{Row}
 use Rattle.loading.specs.Load.{Tank, LoweredTank}
 use Rattle.loading.specs.Rules.{Reading, Surface, Rules}

@@ -7,7 +7,7 @@ use native.Mathlib.Nat.{mul-le-mul-left, mul-lt-mul-of-pos-left, mul-pos}
 use native.Mathlib.Omega.{arith}
 use lib.IntN.{pos, _-ℤ_, _*ℤ_}
 use lib.Signed.{_≤ℤ_, _<ℤ_}
-use Rattle.arithmetic.specs.Rounding.{RoundedDown, RoundedUp}
+use Rattle.arithmetic.proofs.Rounding.{RoundedDown, RoundedUp}
 use Rattle.arithmetic.proofs.Ring.{ring}
 use Rattle.loading.specs.Fraction.{Fraction, _over_, _plus_, _per_, _minus_, LessThanThreeBelow}
 use Rattle.loading.proofs.Difference.{difference-le, difference-lt, difference-times, difference-more}

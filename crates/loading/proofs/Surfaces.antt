@@ -7,9 +7,8 @@ use mathlib.Core.Path.{_≡_, refl, ap, _∙_}
 use Prim.Native.Nat.{ℕ, zero, suc, _+_, _*_, _≤_, _<_}
 use native.Mathlib.Nat.{mul-comm, mul-zero, mul-add, le-mul-of-pos-right}
 use native.Mathlib.Omega.{arith}
-use Rattle.arithmetic.specs.Rounding.{RoundedUp}
 use Rattle.arithmetic.proofs.Ring.{ring}
-use Rattle.arithmetic.proofs.Rounding.{up-of, up-mono, up-zero}
+use Rattle.arithmetic.proofs.Rounding.{RoundedUp, up-of, up-mono, up-zero}
 use Rattle.loading.specs.Load.{Tank, Load, weight, Lowered}
 use Rattle.loading.specs.Rules.{Rules, surfaceOf}
 use Rattle.loading.specs.Stability.{freeSurface, freeSurfaceParts}
