@@ -4,11 +4,12 @@
 --     display-numbered                  the display of a row
 --     usable-numbered                   the use of a table of rows
 -- Assumes nothing.
-use Prim.Native.Nat.{ℕ, zero, suc, _-_}
+use Prim.Native.Nat.{ℕ, zero, suc}
 use mathlib.Core.List.{List}
-use Rattle.ranges.specs.Outcome.{Outcome, answered, refused}
+use Rattle.ranges.specs.Outcome.{Outcome, answered, refused, Numbered}
+use Rattle.ranges.specs.Sizes.{rowsOver}
 use Rattle.ranges.specs.declared.Particulars.{Particulars}
-use Rattle.ranges.proofs.Numbered.{Numbered, numbered, answered-numbered, passed-on, then-numbered}
+use Rattle.ranges.proofs.Numbered.{numbered, answered-numbered, passed-on, then-numbered}
 use Rattle.hydrostatics.specs.Display.{displayOf}
 use Rattle.hydrostatics.specs.Promise.{countOf}
 use Rattle.hydrostatics.specs.Rows.{rowsUpTo, rowsOf}
@@ -23,7 +24,7 @@ module _ (table : List ℕ) (p : Particulars) where
 
   pub rows-numbered : (room : ℕ) → Numbered (rowsOf table p room)
   unfolding rowsOf
-  rows-numbered room = let rest = up-to-numbered (p .m - 1) in search numbered depth 8
+  rows-numbered room = let rest = up-to-numbered (rowsOver (p .m)) in search numbered depth 8
 
 pub count-numbered : (o : Outcome (List ℕ)) → Numbered o → Numbered (countOf o)
 unfolding countOf

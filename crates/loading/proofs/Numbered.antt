@@ -7,8 +7,9 @@ use Prim.Native.Nat.{ℕ, _+_, _/_}
 use mathlib.Core.List.{List, [], _∷_}
 use lib.IntN.{ℤ}
 use lib.ListN.{length}
-use Rattle.ranges.proofs.Numbered.{Numbered, numbered}
+use Rattle.ranges.specs.Outcome.{Numbered}
 use Rattle.ranges.specs.Sizes.{tankWidth, rowWidth}
+use Rattle.ranges.proofs.Numbered.{numbered}
 use Rattle.hydrostatics.proofs.Numbered.{usable-numbered}
 use Rattle.loading.specs.Condition.{tanksFrom, floats, conditionOf}
 use Rattle.loading.specs.Load.{Load}

@@ -9,11 +9,11 @@ use native.Mathlib.Omega.{arith}
 use lib.IntN.{ℤ}
 use lib.ListN.{length}
 use Rattle.ranges.specs.Fields.{Range, _to_, particulars, halfBreadth, item, tank}
-use Rattle.ranges.specs.Outcome.{Outcome, answered, refused}
+use Rattle.ranges.specs.Outcome.{Outcome, answered, refused, Numbered}
 use Rattle.ranges.specs.Refusals.{countNotAllowed, outOfRange}
 use Rattle.ranges.specs.Sizes.{mostItems, mostTanks}
 use Rattle.ranges.specs.declared.Particulars.{Particulars}
-use Rattle.ranges.proofs.Numbered.{Numbered, numbered, answered-numbered, passed-on, then-numbered}
+use Rattle.ranges.proofs.Numbered.{numbered, answered-numbered, passed-on, then-numbered}
 use Rattle.offsets.specs.File.{Contents, points, records, section, complete, file}
 use Rattle.offsets.specs.Reader.{readerOf, summarised}
 use Rattle.offsets.specs.Reading.{one, count, numbers}

@@ -1,5 +1,4 @@
--- A refusal has one of the paper's fourteen numbers; so none has 0. Each part that definitions are made of keeps this.
---     Numbered              a refusal's number is 1 to 14
+-- A refusal has one of the paper's fourteen numbers (`Numbered` of specs); so none has 0. Each part that definitions are made of keeps this.
 --     answered-numbered     an answer
 --     refused-numbered      a refusal with such a number
 --     passed-on             a refusal that is passed on, in place of another answer
@@ -14,18 +13,15 @@ use native.Mathlib.Omega.{arith}
 use lib.Dec.{lit≤}
 use Rattle.arithmetic.specs.Choice.{if_then_else_}
 use Rattle.arithmetic.proofs.Choice.{if-either}
-use Rattle.ranges.specs.Outcome.{Outcome, answered, refused, andThen}
+use Rattle.ranges.specs.Outcome.{Outcome, answered, refused, andThen, Numbered}
+use Rattle.ranges.specs.Refusals.{firstRefusal, lastRefusal}
 use Rattle.ranges.proofs.Outcomes.{refused-not}
-
--- "Refusals by number": the paper's fourteen
-pub record Numbered {A : Type 0} (outcome : Outcome A) : Type 0 where
-  pub one-of-fourteen : {number place : ℕ} → outcome ≡ refused number place → (1 ≤ number) × (number ≤ 14)
 
 pub answered-numbered : {A : Type 0} (a : A) → Numbered (answered a)
 answered-numbered a = record { one-of-fourteen = λ e. refused-not (sym e) }
 
-pub refused-numbered : {A : Type 0} {number place : ℕ} → 1 ≤ number → number ≤ 14 → Numbered {A = A} (refused number place)
-refused-numbered {number} least most =
+pub refused-numbered : {A : Type 0} {number place : ℕ} → firstRefusal ≤ number → number ≤ lastRefusal → Numbered {A = A} (refused number place)
+refused-numbered {number} first last =
     record { one-of-fourteen = λ {number = n} e. let same : number ≡ n = cc in (omega arith, omega arith) }
 
 pub passed-on : {A B : Type 0} {number place : ℕ} → Numbered {A = A} (refused number place) → Numbered {A = B} (refused number place)

@@ -1,5 +1,7 @@
 -- What a call comes to. Every promise of this project says `paper answer ≡ outcomeOf inputs`, with an outcome on both sides.
-use Prim.Native.Nat.{ℕ}
+use Prim.Native.Nat.{ℕ, _≤_}
+use mathlib.Core.Path.{_≡_}
+use Rattle.ranges.specs.Refusals.{firstRefusal, lastRefusal}
 
 -- "Each returns number and place": the values of an answer, or a refusal's number and place.
 pub data Outcome (A : Type 0) : Type 0 where
@@ -10,3 +12,7 @@ pub data Outcome (A : Type 0) : Type 0 where
 unfoldable pub andThen : {A B : Type 0} → Outcome A → (A → Outcome B) → Outcome B
 andThen (answered a) next = next a
 andThen (refused number place) next = refused number place
+
+-- "Refusals by number": what is refused has one of the paper's fourteen
+pub record Numbered {A : Type 0} (outcome : Outcome A) : Type 0 where
+  pub one-of-fourteen : {number place : ℕ} → outcome ≡ refused number place → (firstRefusal ≤ number) × (number ≤ lastRefusal)

@@ -57,6 +57,13 @@ contentsAboveCapacity = 13
 abbrev pub roomTooShort : ℕ
 roomTooShort = 14
 
+-- the first and the last of them
+abbrev pub firstRefusal : ℕ
+firstRefusal = fileTooLong
+
+abbrev pub lastRefusal : ℕ
+lastRefusal = roomTooShort
+
 -- "Place of 4: .. 0..4 particulars, 5+i half-breadths, 1,000+i items, 2,000+i tanks": where the places of each table begin
 abbrev pub placeOfHalfBreadths : ℕ
 placeOfHalfBreadths = 5

@@ -3,7 +3,8 @@
 -- Assumes nothing.
 use Prim.Native.Nat.{ℕ}
 use mathlib.Core.List.{List}
-use Rattle.ranges.proofs.Numbered.{Numbered, numbered}
+use Rattle.ranges.specs.Outcome.{Numbered}
+use Rattle.ranges.proofs.Numbered.{numbered}
 use Rattle.report.specs.Promise.{reportOf}
 
 pub report-numbered : (text : List ℕ) (room : ℕ) → Numbered (reportOf text room)

@@ -9,9 +9,8 @@ use mathlib.Core.List.{List}
 use native.Mathlib.Omega.{arith}
 use lib.Ieee.{Float}
 use lib.IntN.{ℤ}
-use Rattle.ranges.specs.Outcome.{Outcome, answered, refused}
+use Rattle.ranges.specs.Outcome.{Outcome, answered, refused, Numbered}
 use Rattle.ranges.specs.declared.Particulars.{Particulars}
-use Rattle.ranges.proofs.Numbered.{Numbered}
 use Rattle.offsets.specs.Reader.{readerOf, summarised}
 use Rattle.offsets.specs.Writer.{writerOf, lengthOf}
 use Rattle.offsets.proofs.Numbered.{reader-numbered, writer-numbered, summarised-numbered, length-numbered}

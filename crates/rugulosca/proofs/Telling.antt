@@ -13,9 +13,8 @@ use native.Mathlib.Omega.{arith}
 use lib.Ieee.{Float}
 use lib.IntN.{ℤ}
 use Rattle.arithmetic.proofs.Only.{only}
-use Rattle.ranges.specs.Outcome.{Outcome, answered, refused}
+use Rattle.ranges.specs.Outcome.{Outcome, answered, refused, Numbered}
 use Rattle.ranges.specs.declared.Particulars.{Particulars}
-use Rattle.ranges.proofs.Numbered.{Numbered}
 use Rattle.hydrostatics.specs.Promise.{MakesRows}
 use Rattle.hydrostatics.specs.declared.Rows.{Rows}
 use Rattle.loading.specs.declared.Condition.{Condition}
