@@ -6,7 +6,7 @@
 -- Assumes nothing.
 use mathlib.Core.Path.{_≡_}
 use mathlib.Core.List.{List, map}
-use Prim.Native.Nat.{ℕ, _+_, _-_, _*_, _≤_, _<_}
+use Prim.Native.Nat.{ℕ, _+_, _*_, _≤_, _<_}
 use native.Mathlib.Omega.{arith}
 use borrow.Author.Tests.{lt-ltb, le-ltb, eq-eqb, ne-eqb}
 use lib.IntN.{pos}
@@ -16,7 +16,8 @@ use Rattle.ranges.specs.Fields.{particulars, halfBreadth}
 use Rattle.ranges.specs.Private.InRange.{ParticularsInRange}
 use Rattle.ranges.specs.Outcome.{refused}
 use Rattle.ranges.specs.Outside.{firstOutside, numbersOf}
-use Rattle.ranges.specs.Refusals.{outOfRange, wrongSize}
+use Rattle.ranges.specs.Refusals.{outOfRange, wrongSize, placeOfHalfBreadths, halfBreadthTable, rowTable}
+use Rattle.ranges.specs.Sizes.{pointsOf, rowWidth, rowsOver}
 use Rattle.ranges.specs.declared.Particulars.{Particulars}
 use Rattle.ranges.proofs.Facts.{particulars-in-range, half-breadths-in-range}
 use Rattle.hydrostatics.specs.Promise.{paper, countOf, tableAfter, MakesRows}
@@ -25,13 +26,13 @@ use Rattle.hydrostatics.specs.Private.Table.{FillsRows}
 use Rattle.hydrostatics.specs.Private.Waterplanes.{InRange}
 use Rattle.hydrostatics.specs.declared.Rows.{Rows}
 
-pub particulars-told : {p : Particulars} {particular : ℕ} → particular ≡ firstOutside particulars (numbersOf p) → 5 ≤ particular → ParticularsInRange p
+pub particulars-told : {p : Particulars} {particular : ℕ} → particular ≡ firstOutside particulars (numbersOf p) → length particulars ≤ particular → ParticularsInRange p
 particulars-told {p} first a = particulars-in-range p (omega (arith, first))
 
 pub hull-told :
     {table : List ℕ} {p : Particulars} {place : ℕ}
     → ParticularsInRange p
-    → length table ≡ (p .n + 1) * (p .m + 1)
+    → length table ≡ pointsOf (p .n) (p .m)
     → place ≡ firstOutside halfBreadth (map pos table)
     → length table ≤ place
     → InRange table p
@@ -43,26 +44,26 @@ hull-told {table} range b second d = record {
 
 -- ---- the outcome that the tests tell
 module _ (table : List ℕ) (p : Particulars) (room : ℕ) {particular : ℕ} (first : particular ≡ firstOutside particulars (numbersOf p)) where
-  pub bad-particular : particular < 5 → rowsOf table p room ≡ refused outOfRange particular
+  pub bad-particular : particular < length particulars → rowsOf table p room ≡ refused outOfRange particular
   unfolding rowsOf
   bad-particular a = simp (← first, lt-ltb _ _ a, chosen)
 
-  module _ (a : 5 ≤ particular) where
-    pub wrong-table : (length table ≡ (p .n + 1) * (p .m + 1) → ⊥) → rowsOf table p room ≡ refused wrongSize 0
+  module _ (a : length particulars ≤ particular) where
+    pub wrong-table : (length table ≡ pointsOf (p .n) (p .m) → ⊥) → rowsOf table p room ≡ refused wrongSize halfBreadthTable
     unfolding rowsOf
     wrong-table b = simp (← first, le-ltb _ _ a, ne-eqb _ _ b, chosen)
 
-    module _ (b : length table ≡ (p .n + 1) * (p .m + 1)) where
-      pub wrong-room : room < 7 * (p .m - 1) → rowsOf table p room ≡ refused wrongSize 3
+    module _ (b : length table ≡ pointsOf (p .n) (p .m)) where
+      pub wrong-room : room < rowWidth * rowsOver (p .m) → rowsOf table p room ≡ refused wrongSize rowTable
       unfolding rowsOf
       wrong-room c = simp (← first, le-ltb _ _ a, eq-eqb _ _ b, lt-ltb _ _ c, chosen)
 
-      module _ (c : 7 * (p .m - 1) ≤ room) {place : ℕ} (second : place ≡ firstOutside halfBreadth (map pos table)) where
-        pub bad-half-breadth : place < length table → rowsOf table p room ≡ refused outOfRange (5 + place)
+      module _ (c : rowWidth * rowsOver (p .m) ≤ room) {place : ℕ} (second : place ≡ firstOutside halfBreadth (map pos table)) where
+        pub bad-half-breadth : place < length table → rowsOf table p room ≡ refused outOfRange (placeOfHalfBreadths + place)
         unfolding rowsOf
         bad-half-breadth d = simp (← first, ← second, le-ltb _ _ a, eq-eqb _ _ b, le-ltb _ _ c, lt-ltb _ _ d, chosen)
 
-        pub rows-follow : length table ≤ place → rowsOf table p room ≡ rowsUpTo table p (p .m - 1)
+        pub rows-follow : length table ≤ place → rowsOf table p room ≡ rowsUpTo table p (rowsOver (p .m))
         unfolding rowsOf
         rows-follow d = simp (← first, ← second, le-ltb _ _ a, eq-eqb _ _ b, le-ltb _ _ c, le-ltb _ _ d, chosen)
 
@@ -72,5 +73,5 @@ module _ {table : List ℕ} {p : Particulars} {rows : List ℕ} {answer : Rows} 
   unfolding countOf tableAfter
   refuses e f = record { answer-is = rw e f; left = rw e }
 
-  pub makes : {after : List ℕ} → rowsOf table p (length rows) ≡ rowsUpTo table p (p .m - 1) → FillsRows table p rows after answer → MakesRows table p rows after answer
+  pub makes : {after : List ℕ} → rowsOf table p (length rows) ≡ rowsUpTo table p (rowsOver (p .m)) → FillsRows table p rows after answer → MakesRows table p rows after answer
   makes e f = record { answer-is = rw e (f .answer-is); left = rw e (f .left) }

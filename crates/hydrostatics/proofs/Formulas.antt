@@ -7,9 +7,10 @@ use mathlib.Core.List.{List}
 use Prim.Native.Nat.{ℕ, _+_, _*_, _/_, _≤_}
 use native.Mathlib.Nat.{mul-le-mul, mul-zero, div-zero}
 use Rattle.arithmetic.proofs.Ring.{pow2}
+use Rattle.ranges.specs.Fields.{rangeOf, most}
 use Rattle.ranges.specs.declared.Particulars.{Particulars}
 use Rattle.hydrostatics.specs.Row.{rowAt}
-use Rattle.hydrostatics.specs.Private.Waterplanes.{SumsOf, SumsWithin}
+use Rattle.hydrostatics.specs.Private.Waterplanes.{mostQ, mostS, mostSz, mostSx, SumsOf, SumsWithin}
 use Rattle.hydrostatics.specs.declared.Row.{Row}
 use Rattle.hydrostatics.specs.declared.waterplanes.Sums.{Sums}
 
@@ -25,22 +26,29 @@ made p k sums q lcb kb bm km = record {
   area = p .s * q / 12;
 }
 
+-- the greatest distance between stations, and between waterlines
+abbrev longestSpacing : ℕ
+longestSpacing = most (rangeOf 2)
+
+abbrev deepestSpacing : ℕ
+deepestSpacing = most (rangeOf 3)
+
 module _ {p : Particulars} {k : ℕ} {sums : Sums} {q c : ℕ} where
   pub products :
       SumsWithin p k sums q c
-      → (p .d * k ≤ 10_000)
-      × (p .s * p .d ≤ 1_250_000)
-      × (p .s * p .d * sums .sum ≤ 4_608_000_000_000_000)
-      × (p .s * p .d * sums .sum * p .density ≤ 5_068_800_000_000_000_000)
-      × (p .s * q ≤ 19_200_000_000)
-      × (p .s * sums .sx ≤ 368_640_000_000_000)
-      × (p .d * sums .sz ≤ 36_864_000_000_000)
-      × (p .d * sums .sum ≤ 1_843_200_000_000)
-      × (p .d * p .d ≤ 250_000)
-      × (p .d * p .d * sums .sz ≤ 18_432_000_000_000_000)
+      → (p .d * k ≤ deepestSpacing * most (rangeOf 1))
+      × (p .s * p .d ≤ longestSpacing * deepestSpacing)
+      × (p .s * p .d * sums .sum ≤ longestSpacing * deepestSpacing * mostS)
+      × (p .s * p .d * sums .sum * p .density ≤ longestSpacing * deepestSpacing * mostS * most (rangeOf 4))
+      × (p .s * q ≤ longestSpacing * mostQ)
+      × (p .s * sums .sx ≤ longestSpacing * mostSx)
+      × (p .d * sums .sz ≤ deepestSpacing * mostSz)
+      × (p .d * sums .sum ≤ deepestSpacing * mostS)
+      × (p .d * p .d ≤ deepestSpacing * deepestSpacing)
+      × (p .d * p .d * sums .sz ≤ deepestSpacing * deepestSpacing * mostSz)
   products w =
-      let s : p .s ≤ 2_500 = w .particulars .s-most in
-      let d : p .d ≤ 500 = w .particulars .d-most in
+      let s : p .s ≤ longestSpacing = w .particulars .s-most in
+      let d : p .d ≤ deepestSpacing = w .particulars .d-most in
       let spacings = mul-le-mul s d in
       let volume = mul-le-mul spacings (w .sum-most) in (
         mul-le-mul d (w .k-most),

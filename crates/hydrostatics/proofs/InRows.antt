@@ -11,6 +11,7 @@ use lib.ListN.{getD}
 use Rattle.arithmetic.proofs.Choice.{chosen}
 use Rattle.ranges.specs.Fields.{Range, _to_, least, most, rowRanges}
 use Rattle.ranges.specs.Outside.{outsideFrom, firstOutside}
+use Rattle.ranges.specs.Sizes.{rowWidth}
 use Rattle.ranges.proofs.Facts.{all-within, within-whole, whole-within}
 use Rattle.hydrostatics.specs.Row.{numbersOf}
 use Rattle.hydrostatics.specs.declared.Row.{Row}
@@ -30,7 +31,7 @@ pub record RowInRange (row : Row) : Type 0 where
   pub km : Between (range 5) (row .km)
   pub area : Between (range 6) (row .area)
 
-pub row-in-range : (row : Row) → firstOutside rowRanges (map pos (numbersOf row)) ≡ 7 → RowInRange row
+pub row-in-range : (row : Row) → firstOutside rowRanges (map pos (numbersOf row)) ≡ rowWidth → RowInRange row
 row-in-range row e =
     let at = all-within rowRanges (map pos (numbersOf row)) (omega (arith, e)) in
     record {
@@ -43,7 +44,7 @@ row-in-range row e =
       area = within-whole (range 6) (row .area) (at 6 (omega arith));
     }
 
-pub none-outside : {row : Row} → RowInRange row → firstOutside rowRanges (map pos (numbersOf row)) ≡ 7
+pub none-outside : {row : Row} → RowInRange row → firstOutside rowRanges (map pos (numbersOf row)) ≡ rowWidth
 unfolding firstOutside outsideFrom
 none-outside r =
     simp (whole-within _ _ _ (r .draft), whole-within _ _ _ (r .displacement), whole-within _ _ _ (r .lcb), whole-within _ _ _ (r .kb), whole-within _ _ _ (r .bm), whole-within _ _ _ (r .km), whole-within _ _ _ (r .area), chosen)

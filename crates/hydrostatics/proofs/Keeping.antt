@@ -8,6 +8,7 @@ use Prim.Native.Nat.{ℕ, _*_, _≤_}
 use native.Mathlib.Nat.{mul-le-mul}
 use native.Mathlib.Omega.{arith}
 use lib.ListN.{getD}
+use Rattle.ranges.specs.Fields.{rangeOf, most}
 use Rattle.ranges.specs.declared.Particulars.{Particulars}
 use Rattle.simpson.proofs.Curves.{curve-same}
 use Rattle.hydrostatics.specs.Hull.{Q, C}
@@ -23,7 +24,7 @@ module _ {table : List ℕ} {p : Particulars} {q x : List ℕ} (hull : InRange t
   x-at : (j : ℕ) → j ≤ k → getD x j 0 ≡ X table p j
   x-at j l = kept .x-is .at j (omega arith)
 
-  k-most : k ≤ 20
+  k-most : k ≤ most (rangeOf 1)
   k-most = omega (arith, hull .particulars .m-most)
 
   pub kept-small : Small k q x
@@ -45,7 +46,7 @@ module _ {table : List ℕ} {p : Particulars} {q x : List ℕ} (hull : InRange t
 
     pub sums-within : SumsWithin p k sums (getD q k 0) c
     sums-within =
-        let stations : p .n ≤ 40 = hull .particulars .n-most in
+        let stations : p .n ≤ most (rangeOf 0) = hull .particulars .n-most in
         let sum = S-most hull k k-most in
         record {
           particulars = hull .particulars;

@@ -1,6 +1,6 @@
 -- How large the sums of a hull in range are.
 --     place-within               a half-breadth's place is in the table
---     half-breadth-le            no half-breadth is above 8,000
+--     half-breadth-le            no half-breadth is above the greatest
 --     powers-le                  nor its square and cube above theirs
 --     Q-le, C-le                 a waterline's sums, by the area of the rectangle around it
 --     X-le                       at most the last station's number times Q
@@ -12,12 +12,13 @@ use Prim.Native.Nat.{ℕ, _+_, _*_, _^_, _≤_, _<_}
 use native.Mathlib.Nat.{add-mul, mul-le-mul-right, mul-comm, mul-le-mul, mul-le-mul-left, le-trans, pow-le-pow-left}
 use native.Mathlib.Omega.{arith}
 use lib.ListN.{length}
+use Rattle.ranges.specs.Fields.{rangeOf, most}
 use Rattle.ranges.specs.declared.Particulars.{Particulars}
 use Rattle.simpson.specs.Curve.{curve}
 use Rattle.simpson.proofs.Curves.{curve-times, curve-mono}
 use Rattle.simpson.proofs.Moments.{curve-le}
 use Rattle.hydrostatics.specs.Hull.{halfBreadth, S, Sz, Sx, Q, C}
-use Rattle.hydrostatics.specs.Private.Waterplanes.{X, InRange}
+use Rattle.hydrostatics.specs.Private.Waterplanes.{X, InRange, mostQ, mostX, mostC, mostS}
 use Rattle.hydrostatics.proofs.Exchange.{Q-is, C-is, S-is, Sz-is, Sx-is}
 
 -- ordinates times their places, of which none is beyond the last
@@ -40,47 +41,47 @@ module _ (table : List ℕ) (p : Particulars) where
       (le-trans (curve-mono k (X table p) (λ j. p .n * Q table p j) (λ j l. X-le j)) (omega (arith, curve-times k (p .n) (Q table p))))
 
 -- the powers of a half-breadth
-pub powers-le : {y : ℕ} → y ≤ 8_000 → (y * y ≤ 64_000_000) × (y * y * y ≤ 512_000_000_000)
+pub powers-le : {y : ℕ} → y ≤ most (rangeOf 5) → (y * y ≤ most (rangeOf 5) ^ 2) × (y * y * y ≤ most (rangeOf 5) ^ 3)
 powers-le h = (mul-le-mul h h, mul-le-mul (mul-le-mul h h) h)
 
 module _ {table : List ℕ} {p : Particulars} (hull : InRange table p) where
   -- a place of the table
-  pub place-within : {i j : ℕ} → i ≤ p .n → j ≤ p .m → (i * (p .m + 1) ≤ 840) × (i * (p .m + 1) + j < length table)
+  pub place-within : {i j : ℕ} → i ≤ p .n → j ≤ p .m → (i * (p .m + 1) ≤ most (rangeOf 0) * (most (rangeOf 1) + 1)) × (i * (p .m + 1) + j < length table)
   place-within h k =
       let stations = le-trans h (hull .particulars .n-most) in
-      let waterlines : p .m + 1 ≤ 21 = omega (arith, hull .particulars .m-most) in
+      let waterlines : p .m + 1 ≤ most (rangeOf 1) + 1 = omega (arith, hull .particulars .m-most) in
       (mul-le-mul stations waterlines, omega (arith, hull .complete, mul-le-mul-right (p .m + 1) h, add-mul (p .n) 1 (p .m + 1)))
 
-  pub half-breadth-le : (i j : ℕ) → halfBreadth table p i j ≤ 8_000
+  pub half-breadth-le : (i j : ℕ) → halfBreadth table p i j ≤ most (rangeOf 5)
   unfolding halfBreadth
   half-breadth-le i j = hull .half-breadths (i * (p .m + 1) + j)
 
-  pub Q-le : (j : ℕ) → Q table p j ≤ 8_000 * (24 * p .n)
-  Q-le j = rw (Q-is table p j) (curve-le (p .n) 8_000 (λ i. halfBreadth table p i j) (λ i l. half-breadth-le i j))
+  pub Q-le : (j : ℕ) → Q table p j ≤ most (rangeOf 5) * (24 * p .n)
+  Q-le j = rw (Q-is table p j) (curve-le (p .n) (most (rangeOf 5)) (λ i. halfBreadth table p i j) (λ i l. half-breadth-le i j))
 
-  pub C-le : (j : ℕ) → C table p j ≤ 8_000 ^ 3 * (24 * p .n)
+  pub C-le : (j : ℕ) → C table p j ≤ most (rangeOf 5) ^ 3 * (24 * p .n)
   C-le j =
       rw (C-is table p j)
-      (curve-le (p .n) (8_000 ^ 3) (λ i. halfBreadth table p i j ^ 3) (λ i l. pow-le-pow-left (half-breadth-le i j) 3))
+      (curve-le (p .n) (most (rangeOf 5) ^ 3) (λ i. halfBreadth table p i j ^ 3) (λ i l. pow-le-pow-left (half-breadth-le i j) 3))
 
-  pub S-le : (k : ℕ) → S table p k ≤ 8_000 * (24 * p .n) * (24 * k)
-  S-le k = rw (S-is table p k) (curve-le k (8_000 * (24 * p .n)) (Q table p) (λ j l. Q-le j))
+  pub S-le : (k : ℕ) → S table p k ≤ most (rangeOf 5) * (24 * p .n) * (24 * k)
+  S-le k = rw (S-is table p k) (curve-le k (most (rangeOf 5) * (24 * p .n)) (Q table p) (λ j l. Q-le j))
 
   -- as numbers
-  stations : p .n ≤ 40
+  stations : p .n ≤ most (rangeOf 0)
   stations = hull .particulars .n-most
 
-  pub Q-most : (j : ℕ) → Q table p j ≤ 7_680_000
+  pub Q-most : (j : ℕ) → Q table p j ≤ mostQ
   Q-most j = omega (arith, Q-le j, stations)
 
-  pub X-most : (j : ℕ) → X table p j ≤ 307_200_000
+  pub X-most : (j : ℕ) → X table p j ≤ mostX
   X-most j = omega (arith, X-le table p j, mul-le-mul stations (Q-most j))
 
-  pub C-most : (j : ℕ) → C table p j ≤ 491_520_000_000_000
+  pub C-most : (j : ℕ) → C table p j ≤ mostC
   C-most j = omega (arith, C-le j, stations)
 
-  pub S-most : (k : ℕ) → k ≤ 20 → S table p k ≤ 3_686_400_000
+  pub S-most : (k : ℕ) → k ≤ most (rangeOf 1) → S table p k ≤ mostS
   S-most k h =
-      let waterlines : 24 * k ≤ 480 = omega arith in
-      let largest : 8_000 * (24 * p .n) ≤ 7_680_000 = omega (arith, stations) in
+      let waterlines : 24 * k ≤ 24 * most (rangeOf 1) = omega arith in
+      let largest : most (rangeOf 5) * (24 * p .n) ≤ mostQ = omega (arith, stations) in
       omega (arith, S-le k, mul-le-mul largest waterlines)

@@ -6,7 +6,7 @@
 -- Assumes nothing.
 use mathlib.Core.Path.{_≡_, refl, sym, ap, _∙_}
 use mathlib.Core.List.{List, _++_}
-use Prim.Native.Nat.{ℕ, zero, suc, _+_, _-_, _*_, _/_, _≤_, _<_}
+use Prim.Native.Nat.{ℕ, zero, suc, _*_, _/_, _≤_, _<_}
 use native.Mathlib.Omega.{arith}
 use borrow.Author.Count.{below-none, below-more}
 use borrow.Author.Tests.{leb-false, ltb-false}
@@ -14,11 +14,12 @@ use lib.Dec.{leb, ltb}
 use lib.ListN.{length, getD, drop}
 use native.Mathlib.Numerals.{add-one}
 use Rattle.arithmetic.specs.Choice.{if_then_else_}
+use Rattle.ranges.specs.Fields.{highestMetacentre}
 use Rattle.ranges.specs.Outcome.{Outcome, answered, refused}
 use Rattle.ranges.specs.Refusals.{displacementNotRising, metacentreTooHigh}
+use Rattle.ranges.specs.Sizes.{rowWidth, rowsOver}
 use Rattle.ranges.specs.declared.Particulars.{Particulars}
 use Rattle.hydrostatics.specs.Promise.{paper, countOf, tableAfter}
-use Rattle.ranges.specs.Fields.{highestMetacentre}
 use Rattle.hydrostatics.specs.Row.{rowOf, numbersOf}
 use Rattle.hydrostatics.specs.Rows.{displacementBefore, rowsUpTo}
 use Rattle.hydrostatics.specs.Private.Table.{noRow, numbersUpTo, TriedRows, FillsRows}
@@ -59,7 +60,7 @@ module _ {table : List ℕ} {p : Particulars} where
 
 -- ---- what is left of the lent table
 -- an outcome with a count has numbers
-pub counted : {X : Type 0} (o : Outcome (List ℕ)) {count : ℕ} → answered count ≡ countOf o → ((numbers : List ℕ) → o ≡ answered numbers → count ≡ length numbers / 7 → X) → X
+pub counted : {X : Type 0} (o : Outcome (List ℕ)) {count : ℕ} → answered count ≡ countOf o → ((numbers : List ℕ) → o ≡ answered numbers → count ≡ length numbers / rowWidth → X) → X
 unfolding countOf
 counted (answered numbers) e on = on numbers refl cc
 counted (refused number place) e on = refused-not (sym e)
@@ -72,26 +73,26 @@ refused-count (refused number place) e = cc
 
 module _ {table : List ℕ} {p : Particulars} {tried : Tried} (so : TriedRows table p tried) where
   module _ {count : ℕ} (made : tried .answer ≡ Made count) where
-    all : (count ≡ p .m - 1) × (rowsUpTo table p (p .m - 1) ≡ answered (numbersUpTo (rowOf table p) (p .m - 1)))
+    all : (count ≡ rowsOver (p .m)) × (rowsUpTo table p (rowsOver (p .m)) ≡ answered (numbersUpTo (rowOf table p) (rowsOver (p .m))))
     all =
-        counted (rowsUpTo table p (p .m - 1)) (sym (ap paper made) ∙ so .answer-is) (λ numbers o e.
-        let numbers-are = passed (p .m - 1) o .numbers-are in (
-          omega (arith, ap length numbers-are, numbers-length (rowOf table p) (p .m - 1)),
+        counted (rowsUpTo table p (rowsOver (p .m))) (sym (ap paper made) ∙ so .answer-is) (λ numbers o e.
+        let numbers-are = passed (rowsOver (p .m)) o .numbers-are in (
+          omega (arith, ap length numbers-are, numbers-length (rowOf table p) (rowsOver (p .m))),
           o ∙ ap answered numbers-are,
         ))
 
-    pub made-count : count ≡ p .m - 1
+    pub made-count : count ≡ rowsOver (p .m)
     made-count = all .0
 
-    pub made-left : {was after : List ℕ} → after ≡ numbersUpTo (λ r. getD (tried .rows) r noRow) count ++ drop (7 * count) was → FillsRows table p was after (Made count)
+    pub made-left : {was after : List ℕ} → after ≡ numbersUpTo (λ r. getD (tried .rows) r noRow) count ++ drop (rowWidth * count) was → FillsRows table p was after (Made count)
     unfolding tableAfter
     made-left {was} e = record {
       answer-is = sym (ap paper made) ∙ so .answer-is;
       left =
           let kept = numbers-same (λ r. getD (tried .rows) r noRow) (rowOf table p) count (so .rows-are count made .at) in
-          rw (all .1, numbers-length (rowOf table p) (p .m - 1), ← made-count) (e ∙ ap (λ l. l ++ drop (7 * count) was) kept);
+          rw (all .1, numbers-length (rowOf table p) (rowsOver (p .m)), ← made-count) (e ∙ ap (λ l. l ++ drop (rowWidth * count) was) kept);
     }
 
   pub refused-left : {r : Refusal} {was : List ℕ} → tried .answer ≡ Refused r → FillsRows table p was was (tried .answer)
   unfolding tableAfter
-  refused-left e = record { answer-is = so .answer-is; left = rw (refused-count (rowsUpTo table p (p .m - 1)) (sym (ap paper e) ∙ so .answer-is)) }
+  refused-left e = record { answer-is = so .answer-is; left = rw (refused-count (rowsUpTo table p (rowsOver (p .m))) (sym (ap paper e) ∙ so .answer-is)) }

@@ -10,6 +10,7 @@ use native.Mathlib.Nat.{add-zero, eq-or-lt-of-le}
 use native.Mathlib.Omega.{arith}
 use lib.ListN.{getD, drop}
 use lib.Seq.{drop-at, getD-drop}
+use Rattle.ranges.specs.Sizes.{rowWidth}
 use Rattle.hydrostatics.specs.Row.{numbersOf}
 use Rattle.hydrostatics.specs.Private.Table.{numbersUpTo}
 use Rattle.hydrostatics.specs.Usable.{seven, rowIn}
@@ -19,7 +20,7 @@ use Rattle.hydrostatics.proofs.Writing.{numbers-length}
 -- a table whose part from 7r on begins with row
 pub record Holds (rows : List ℕ) (r : ℕ) (row : Row) : Type 0 where
   pub rest : List ℕ
-  pub part : drop (7 * r) rows ≡ numbersOf row ++ rest
+  pub part : drop (rowWidth * r) rows ≡ numbersOf row ++ rest
 
 pub numbers-part : (row : ℕ → Row) (count r : ℕ) (beyond : List ℕ) → r < count → Holds (numbersUpTo row count ++ beyond) r (row r)
 unfolding numbersUpTo
@@ -27,7 +28,7 @@ numbers-part row zero r beyond h = absurd (omega arith)
 numbers-part row (suc last) r beyond h =
     rw (append-assoc (numbersUpTo row last) (numbersOf (row last)) beyond)
     (⊎-elim
-    (λ (e : r ≡ last). rw e (record { rest = beyond; part = drop-at (numbersUpTo row last) (numbersOf (row last) ++ beyond) (7 * last) (numbers-length row last) }))
+    (λ (e : r ≡ last). rw e (record { rest = beyond; part = drop-at (numbersUpTo row last) (numbersOf (row last) ++ beyond) (rowWidth * last) (numbers-length row last) }))
     (λ (l : r < last). numbers-part row last r (numbersOf (row last) ++ beyond) l)
     (eq-or-lt-of-le (omega arith)))
 
@@ -35,11 +36,11 @@ module _ {rows : List ℕ} {r : ℕ} {row : Row} (h : Holds rows r row) where
   pub seven-in : seven rows r ≡ numbersOf row
   seven-in = rw (h .part)
 
-  number-in : (i : ℕ) → getD rows (7 * r + i) 0 ≡ getD (numbersOf row ++ h .rest) i 0
-  number-in i = sym (getD-drop (7 * r) rows i 0) ∙ ap (λ l. getD l i 0) (h .part)
+  number-in : (i : ℕ) → getD rows (rowWidth * r + i) 0 ≡ getD (numbersOf row ++ h .rest) i 0
+  number-in i = sym (getD-drop (rowWidth * r) rows i 0) ∙ ap (λ l. getD l i 0) (h .part)
 
   pub row-in : rowIn rows r ≡ row
   unfolding rowIn
   row-in =
-      let first : getD rows (7 * r) 0 ≡ row .draft = ap (λ k. getD rows k 0) (sym (add-zero (7 * r))) ∙ number-in 0 in
+      let first : getD rows (rowWidth * r) 0 ≡ row .draft = ap (λ k. getD rows k 0) (sym (add-zero (rowWidth * r))) ∙ number-in 0 in
       rw (first, number-in 1, number-in 2, number-in 3, number-in 4, number-in 5, number-in 6)

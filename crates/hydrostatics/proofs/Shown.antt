@@ -10,12 +10,13 @@ use borrow.Author.Tests.{lt-ltb, le-ltb}
 use lib.Ieee.{binary64, ofBits, ofInt}
 use lib.IntN.{pos}
 use Rattle.arithmetic.proofs.Choice.{chosen}
+use Rattle.ranges.specs.Fields.{rowRanges}
 use Rattle.ranges.specs.Outcome.{answered, refused}
 use Rattle.ranges.specs.Outside.{firstOutside}
 use Rattle.ranges.specs.Refusals.{outOfRange}
+use Rattle.ranges.specs.Sizes.{rowWidth}
 use Rattle.ranges.proofs.Outside.{outside-le}
 use Rattle.hydrostatics.specs.Display.{figuresOf, displayOf}
-use Rattle.ranges.specs.Fields.{rowRanges}
 use Rattle.hydrostatics.specs.Row.{numbersOf}
 use Rattle.hydrostatics.specs.declared.Row.{Row}
 
@@ -29,12 +30,12 @@ million = refl
 
 -- ---- what is displayed
 module _ (row : Row) {place : ℕ} (first : place ≡ firstOutside rowRanges (map pos (numbersOf row))) where
-  pub shown-refused : place < 7 → refused outOfRange place ≡ displayOf row
+  pub shown-refused : place < rowWidth → refused outOfRange place ≡ displayOf row
   unfolding displayOf
   shown-refused h = simp (← first, lt-ltb _ _ h, chosen)
 
-  module _ (h : 7 ≤ place) where
-    pub shown-all : firstOutside rowRanges (map pos (numbersOf row)) ≡ 7
+  module _ (h : rowWidth ≤ place) where
+    pub shown-all : firstOutside rowRanges (map pos (numbersOf row)) ≡ rowWidth
     shown-all = omega (arith, first, outside-le rowRanges (map pos (numbersOf row)))
 
     pub shown : answered (figuresOf row) ≡ displayOf row

@@ -6,21 +6,22 @@
 --     q-most, x-most, c-most             how large the sums over a waterline are on the way
 --     sum-most, sz-most, sx-most         how large the sums of a row are on the way
 -- Assumes nothing.
-use mathlib.Core.Path.{_≡_, refl, sym, ap, ap₂, _∙_}
+use mathlib.Core.Path.{_≡_, sym, ap, ap₂, _∙_}
 use mathlib.Core.List.{List}
 use Prim.Native.Nat.{ℕ, _+_, _*_, _^_, _≤_, _<_}
-use native.Mathlib.Nat.{add-mul, mul-assoc, mul-le-mul, mul-le-mul-right, le-trans}
+use native.Mathlib.Nat.{mul-assoc, mul-le-mul, le-trans}
 use native.Mathlib.Omega.{arith}
-use lib.ListN.{length, getD}
+use lib.ListN.{getD}
 use Rattle.arithmetic.specs.Sum.{sumTo}
 use Rattle.arithmetic.proofs.Algebra.{natural}
 use Rattle.arithmetic.proofs.Sums.{sum-none, sum-more, sum-grows}
+use Rattle.ranges.specs.Fields.{rangeOf, most}
 use Rattle.ranges.specs.declared.Particulars.{Particulars}
 use Rattle.simpson.specs.Multipliers.{multiplier}
 use Rattle.simpson.specs.Curve.{curve}
 use Rattle.simpson.proofs.Moments.{curve-le}
 use Rattle.hydrostatics.specs.Hull.{halfBreadth}
-use Rattle.hydrostatics.specs.Private.Waterplanes.{InRange, Small}
+use Rattle.hydrostatics.specs.Private.Waterplanes.{InRange, mostQ, mostX, mostC, mostS, mostSz, mostSx, Small}
 use Rattle.hydrostatics.proofs.Exchange.{Q-is, X-is, C-is}
 use Rattle.hydrostatics.proofs.Limits.{Q-most, X-most, C-most}
 
@@ -52,23 +53,23 @@ swept-moment y {i} so h {u} {v} e f = rw (mul-assoc u v i) (swept-more so h e (a
 
 -- ---- over the stations of waterline j
 module _ {table : List ℕ} {p : Particulars} (hull : InRange table p) (j : ℕ) {i s : ℕ} where
-  pub q-most : Swept (p .n) (λ i. halfBreadth table p i j) i s → s ≤ 7_680_000
+  pub q-most : Swept (p .n) (λ i. halfBreadth table p i j) i s → s ≤ mostQ
   q-most so = omega (arith, swept-le so, Q-is table p j, Q-most hull j)
 
-  pub x-most : Swept (p .n) (λ i. halfBreadth table p i j * i) i s → s ≤ 307_200_000
+  pub x-most : Swept (p .n) (λ i. halfBreadth table p i j * i) i s → s ≤ mostX
   x-most so = omega (arith, swept-le so, X-is table p j, X-most hull j)
 
-  pub c-most : Swept (p .n) (λ i. halfBreadth table p i j ^ 3) i s → s ≤ 491_520_000_000_000
+  pub c-most : Swept (p .n) (λ i. halfBreadth table p i j ^ 3) i s → s ≤ mostC
   c-most so = omega (arith, swept-le so, C-is table p j, C-most hull j)
 
 -- ---- over the waterlines 0..k of a row
 module _ {k : ℕ} {q x : List ℕ} (small : Small k q x) {j s : ℕ} where
-  pub sum-most : Swept k (λ j. getD q j 0) j s → s ≤ 3_686_400_000
-  sum-most so = omega (arith, swept-le so, small .k-most, curve-le k 7_680_000 (λ j. getD q j 0) (small .q-most))
+  pub sum-most : Swept k (λ j. getD q j 0) j s → s ≤ mostS
+  sum-most so = omega (arith, swept-le so, small .k-most, curve-le k mostQ (λ j. getD q j 0) (small .q-most))
 
-  pub sz-most : Swept k (λ j. getD q j 0 * j) j s → s ≤ 73_728_000_000
+  pub sz-most : Swept k (λ j. getD q j 0 * j) j s → s ≤ mostSz
   sz-most so =
-      omega (arith, swept-le so, small .k-most, curve-le k 153_600_000 (λ j. getD q j 0 * j) (λ j h. mul-le-mul (small .q-most j h) (le-trans h (small .k-most))))
+      omega (arith, swept-le so, small .k-most, curve-le k (mostQ * most (rangeOf 1)) (λ j. getD q j 0 * j) (λ j h. mul-le-mul (small .q-most j h) (le-trans h (small .k-most))))
 
-  pub sx-most : Swept k (λ j. getD x j 0) j s → s ≤ 147_456_000_000
-  sx-most so = omega (arith, swept-le so, small .k-most, curve-le k 307_200_000 (λ j. getD x j 0) (small .x-most))
+  pub sx-most : Swept k (λ j. getD x j 0) j s → s ≤ mostSx
+  sx-most so = omega (arith, swept-le so, small .k-most, curve-le k mostX (λ j. getD x j 0) (small .x-most))

@@ -7,7 +7,7 @@ use mathlib.Core.Path.{_≡_, refl, ap, _∙_}
 use mathlib.Core.Bool.{true, _||_, or-true}
 use mathlib.Core.List.{List, _++_, map}
 use mathlib.Core.Logic.{_⊎_, inl, inr}
-use Prim.Native.Nat.{ℕ, zero, suc, _+_, _-_, _*_, _/_, _≤_, _<_}
+use Prim.Native.Nat.{ℕ, zero, suc, _+_, _*_, _/_, _≤_, _<_}
 use native.Mathlib.Nat.{mul-comm}
 use native.Mathlib.Omega.{arith}
 use borrow.Author.Tests.{lt-ltb, eq-eqb, ltb-false, not-false, eqb-true}
@@ -15,15 +15,16 @@ use lib.Dec.{eqb}
 use lib.IntN.{pos}
 use lib.ListN.{length, drop}
 use Rattle.arithmetic.proofs.Choice.{chosen}
-use Rattle.ranges.specs.Fields.{particulars, halfBreadth}
+use Rattle.ranges.specs.Fields.{least, most, rangeOf, particulars, halfBreadth}
 use Rattle.ranges.specs.Outcome.{answered, andThen}
 use Rattle.ranges.specs.Outside.{firstOutside, numbersOf}
-use Rattle.ranges.specs.Refusals.{outOfRange, wrongSize}
+use Rattle.ranges.specs.Refusals.{outOfRange, wrongSize, placeOfHalfBreadths, halfBreadthTable, rowTable}
+use Rattle.ranges.specs.Sizes.{pointsOf, rowWidth, rowsOver, leastRows, mostRows}
 use Rattle.ranges.specs.declared.Particulars.{Particulars}
 use Rattle.ranges.proofs.Facts.{whole-within}
 use Rattle.ranges.proofs.Outcomes.{not-refused}
 use Rattle.hydrostatics.specs.Promise.{tableAfter, MakesRows}
-use Rattle.hydrostatics.specs.Row.{rowAt, rowOf}
+use Rattle.hydrostatics.specs.Row.{waterlineOf, rowAt, rowOf}
 use Rattle.hydrostatics.specs.Rows.{displacementBefore, rowsOf}
 use Rattle.hydrostatics.specs.Usable.{inRange, spaced, rises, metacentreFits, usableRow, usableUpTo}
 use Rattle.hydrostatics.specs.Private.Waterplanes.{InRange}
@@ -39,22 +40,22 @@ use Rattle.hydrostatics.proofs.Writing.{numbers-length}
 -- ---- what an answer tells
 pub record Answered (table : List ℕ) (p : Particulars) (numbers : List ℕ) : Type 0 where
   pub hull : InRange table p
-  pub rows : Passed table p (p .m - 1) numbers
+  pub rows : Passed table p (rowsOver (p .m)) numbers
 
 pub answered-rows : {table : List ℕ} {p : Particulars} {numbers : List ℕ} (room : ℕ) → rowsOf table p room ≡ answered numbers → Answered table p numbers
 unfolding rowsOf
 answered-rows {table} {p} room e =
     let bad = firstOutside particulars (numbersOf p) in
     let whole = length table in
-    let size = (p .n + 1) * (p .m + 1) in
+    let size = pointsOf (p .n) (p .m) in
     let place = firstOutside halfBreadth (map pos table) in
     let one = not-refused outOfRange bad e in
-    let two = not-refused wrongSize 0 (one .1) in
-    let three = not-refused wrongSize 3 (two .1) in
-    let four = not-refused outOfRange (5 + place) (three .1) in
+    let two = not-refused wrongSize halfBreadthTable (one .1) in
+    let three = not-refused wrongSize rowTable (two .1) in
+    let four = not-refused outOfRange (placeOfHalfBreadths + place) (three .1) in
     record {
-      hull = hull-told (particulars-told refl (ltb-false bad 5 (one .0))) (eqb-true whole size (not-false (eqb whole size) (two .0))) refl (ltb-false place whole (four .0));
-      rows = passed (p .m - 1) (four .1);
+      hull = hull-told (particulars-told refl (ltb-false bad (length particulars) (one .0))) (eqb-true whole size (not-false (eqb whole size) (two .0))) refl (ltb-false place whole (four .0));
+      rows = passed (rowsOver (p .m)) (four .1);
     }
 
 -- ---- each test of a row that is read back
@@ -63,60 +64,60 @@ both a b c (inl e) = rw (eq-eqb a c e)
 both a b c (inr e) = rw (eq-eqb b c e) (or-true (eqb a c))
 
 module _ {table : List ℕ} {p : Particulars} {numbers : List ℕ} (so : Answered table p numbers) (beyond : List ℕ) where
-  held : (r : ℕ) → r < p .m - 1 → Holds (numbers ++ beyond) r (rowOf table p r)
-  held r h = rw (so .rows .numbers-are) (numbers-part (rowOf table p) (p .m - 1) r beyond h)
+  held : (r : ℕ) → r < rowsOver (p .m) → Holds (numbers ++ beyond) r (rowOf table p r)
+  held r h = rw (so .rows .numbers-are) (numbers-part (rowOf table p) (rowsOver (p .m)) r beyond h)
 
-  module _ (r : ℕ) (h : r < p .m - 1) where
+  module _ (r : ℕ) (h : r < rowsOver (p .m)) where
     ranged : inRange (numbers ++ beyond) r ≡ true
     unfolding inRange
     ranged =
         let range = so .hull .particulars in
         let above = so .rows .rises r h in
-        let ok = row-ranged (so .hull) {k = r + 2} (omega arith) (omega arith) (omega arith) (so .rows .under r h) in
+        let ok = row-ranged (so .hull) {k = waterlineOf r} (omega arith) (omega arith) (omega arith) (so .rows .under r h) in
         rw (seven-in (held r h), none-outside ok)
 
     evenly : spaced (numbers ++ beyond) r ≡ true
     unfolding spaced rowAt
     evenly =
-        let d : (10 ≤ p .d) × (p .d ≤ 500) = (so .hull .particulars .d-least, so .hull .particulars .d-most) in
+        let d : (least (rangeOf 3) ≤ p .d) × (p .d ≤ most (rangeOf 3)) = (so .hull .particulars .d-least, so .hull .particulars .d-most) in
         let half : p .d * 2 / 2 ≡ p .d = omega arith in
-        rw (row-in (held 0 (omega arith)), row-in (held r h), half, eq-eqb (2 * p .d) (p .d * 2) (omega arith), whole-within 10 500 (p .d) d, eq-eqb (p .d * (r + 2)) ((r + 2) * p .d) (mul-comm (p .d) (r + 2)))
+        rw (row-in (held 0 (omega arith)), row-in (held r h), half, eq-eqb (2 * p .d) (p .d * 2) (omega arith), whole-within (least (rangeOf 3)) (most (rangeOf 3)) (p .d) d, eq-eqb (p .d * waterlineOf r) (waterlineOf r * p .d) (mul-comm (p .d) (waterlineOf r)))
 
     fits : metacentreFits (numbers ++ beyond) r ≡ true
     unfolding metacentreFits
-    fits = rw (row-in (held r h)) (both _ _ _ (metacentre-fits table p (r + 2)))
+    fits = rw (row-in (held r h)) (both _ _ _ (metacentre-fits table p (waterlineOf r)))
 
-  upward : (r : ℕ) → r < p .m - 1 → rises (numbers ++ beyond) r ≡ true
+  upward : (r : ℕ) → r < rowsOver (p .m) → rises (numbers ++ beyond) r ≡ true
   unfolding rises displacementBefore
   upward zero h = refl
   upward (suc r) h = rw (row-in (held r (omega arith)), row-in (held (suc r) h), lt-ltb _ _ (so .rows .rises (suc r) h))
 
-  row-usable : (r : ℕ) → r < p .m - 1 → usableRow (numbers ++ beyond) r ≡ true
+  row-usable : (r : ℕ) → r < rowsOver (p .m) → usableRow (numbers ++ beyond) r ≡ true
   unfolding usableRow
   row-usable r h = rw (ranged r h, evenly r h, upward r h, fits r h)
 
-  rows-usable : (count : ℕ) → count ≤ p .m - 1 → usableUpTo (numbers ++ beyond) count ≡ answered count
+  rows-usable : (count : ℕ) → count ≤ rowsOver (p .m) → usableUpTo (numbers ++ beyond) count ≡ answered count
   unfolding usableUpTo andThen
   rows-usable zero h = refl
   rows-usable (suc r) h = rw (rows-usable r (omega arith)) (simp (row-usable r (omega arith), chosen))
 
 pub record Served (numbers : List ℕ) (count : ℕ) : Type 0 where
-  pub long : length numbers ≡ 7 * count
-  pub least : 2 ≤ count
-  pub most : count ≤ 19
+  pub long : length numbers ≡ rowWidth * count
+  pub least : leastRows ≤ count
+  pub most : count ≤ mostRows
   pub each : (beyond : List ℕ) (r : ℕ) → r < count → usableRow (numbers ++ beyond) r ≡ true
   pub all : (beyond : List ℕ) → usableUpTo (numbers ++ beyond) count ≡ answered count
 
-pub served : (table : List ℕ) (p : Particulars) (room : ℕ) {numbers : List ℕ} → rowsOf table p room ≡ answered numbers → Served numbers (p .m - 1)
+pub served : (table : List ℕ) (p : Particulars) (room : ℕ) {numbers : List ℕ} → rowsOf table p room ≡ answered numbers → Served numbers (rowsOver (p .m))
 served table p room {numbers} e =
     let so : Answered table p numbers = answered-rows room e in
     let range = so .hull .particulars in
     record {
-      long = ap length (so .rows .numbers-are) ∙ numbers-length (rowOf table p) (p .m - 1);
+      long = ap length (so .rows .numbers-are) ∙ numbers-length (rowOf table p) (rowsOver (p .m));
       least = omega arith;
       most = omega arith;
       each = λ beyond. row-usable so beyond;
-      all = λ beyond. rows-usable so beyond (p .m - 1) (omega arith);
+      all = λ beyond. rows-usable so beyond (rowsOver (p .m)) (omega arith);
     }
 
 -- the same of the promise: under a success the lent table begins with such numbers
@@ -131,7 +132,7 @@ unfolding tableAfter
 made-usable {table} {p} {rows} made =
     counted (rowsOf table p (length rows)) (made .answer-is) (λ numbers so e.
     let good = served table p (length rows) so in
-    let count-is : _ ≡ p .m - 1 = e ∙ ap (λ n. n / 7) (good .long) ∙ omega arith in
+    let count-is : _ ≡ rowsOver (p .m) = e ∙ ap (λ n. n / rowWidth) (good .long) ∙ omega arith in
     record {
       numbers = numbers;
       beyond = drop (length numbers) rows;

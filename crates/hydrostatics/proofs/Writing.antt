@@ -11,6 +11,7 @@ use native.Mathlib.Numerals.{add-one}
 use native.Mathlib.Omega.{arith}
 use lib.ListN.{length, take, drop, length-append, length-drop}
 use Rattle.arithmetic.proofs.Parts.{part-filled}
+use Rattle.ranges.specs.Sizes.{rowWidth}
 use Rattle.hydrostatics.specs.Row.{numbersOf}
 use Rattle.hydrostatics.specs.Private.Table.{numbersUpTo}
 use Rattle.hydrostatics.specs.declared.Row.{Row}
@@ -19,7 +20,7 @@ pub numbers-more : (row : ℕ → Row) (r : ℕ) → numbersUpTo row (r + 1) ≡
 unfolding numbersUpTo
 numbers-more row r = rw add-one
 
-pub numbers-length : (row : ℕ → Row) (count : ℕ) → length (numbersUpTo row count) ≡ 7 * count
+pub numbers-length : (row : ℕ → Row) (count : ℕ) → length (numbersUpTo row count) ≡ rowWidth * count
 unfolding numbersUpTo
 numbers-length row zero = refl
 numbers-length row (suc r) = rw (length-append, numbers-length row r, mul-suc)
@@ -32,7 +33,7 @@ numbers-same f g (suc r) h =
 
 pub record Written (row : ℕ → Row) (was : List ℕ) (r : ℕ) (rows : List ℕ) : Type 0 where
   pub long : length rows ≡ length was
-  pub so-far : rows ≡ numbersUpTo row r ++ drop (7 * r) was
+  pub so-far : rows ≡ numbersUpTo row r ++ drop (rowWidth * r) was
 
 module _ {row : ℕ → Row} {was : List ℕ} where
   pub written-none : Written row was 0 was
@@ -43,18 +44,18 @@ module _ {row : ℕ → Row} {was : List ℕ} where
     -- the part from 7r on came back with the row in front
     pub written-more :
         (back : List ℕ)
-        → 7 * (r + 1) ≤ length was
-        → back ≡ numbersOf (row r) ++ drop 7 (take (length rows - 7 * r) (drop (7 * r) rows))
-        → Written row was (r + 1) (take (7 * r) rows ++ (back ++ drop (length rows - 7 * r) (drop (7 * r) rows)))
+        → rowWidth * (r + 1) ≤ length was
+        → back ≡ numbersOf (row r) ++ drop rowWidth (take (length rows - rowWidth * r) (drop (rowWidth * r) rows))
+        → Written row was (r + 1) (take (rowWidth * r) rows ++ (back ++ drop (length rows - rowWidth * r) (drop (rowWidth * r) rows)))
     written-more back h e =
-        let next : 7 * (r + 1) ≡ 7 * r + 7 = omega arith in
-        let whole = take (7 * r) rows ++ (back ++ drop (length rows - 7 * r) (drop (7 * r) rows)) in
-        let filled : whole ≡ numbersUpTo row (r + 1) ++ drop (7 * (r + 1)) was =
-        rw (numbers-more row r, next) (part-filled (7 * r) 7 (numbersUpTo row r) (numbersOf (row r)) rows was back (numbers-length row r) (so .so-far) e) in
+        let next : rowWidth * (r + 1) ≡ rowWidth * r + rowWidth = omega arith in
+        let whole = take (rowWidth * r) rows ++ (back ++ drop (length rows - rowWidth * r) (drop (rowWidth * r) rows)) in
+        let filled : whole ≡ numbersUpTo row (r + 1) ++ drop (rowWidth * (r + 1)) was =
+        rw (numbers-more row r, next) (part-filled (rowWidth * r) rowWidth (numbersUpTo row r) (numbersOf (row r)) rows was back (numbers-length row r) (so .so-far) e) in
         record {
-          long = ap length filled ∙ length-append (numbersUpTo row (r + 1)) (drop (7 * (r + 1)) was) ∙ omega (arith, numbers-length row (r + 1), length-drop (7 * (r + 1)) was);
+          long = ap length filled ∙ length-append (numbersUpTo row (r + 1)) (drop (rowWidth * (r + 1)) was) ∙ omega (arith, numbers-length row (r + 1), length-drop (rowWidth * (r + 1)) was);
           so-far = filled;
         }
 
-    pub written-all : {count : ℕ} → r ≡ count → rows ≡ numbersUpTo row count ++ drop (7 * count) was
-    written-all e = subst (λ count. rows ≡ numbersUpTo row count ++ drop (7 * count) was) e (so .so-far)
+    pub written-all : {count : ℕ} → r ≡ count → rows ≡ numbersUpTo row count ++ drop (rowWidth * count) was
+    written-all e = subst (λ count. rows ≡ numbersUpTo row count ++ drop (rowWidth * count) was) e (so .so-far)

@@ -9,8 +9,9 @@ use lib.IntN.{pos}
 use Rattle.arithmetic.specs.Choice.{if_then_else_}
 use Rattle.ranges.specs.Outcome.{Outcome, answered, refused}
 use Rattle.ranges.specs.Outside.{firstOutside}
-use Rattle.ranges.specs.Refusals.{outOfRange}
 use Rattle.ranges.specs.Fields.{rowRanges}
+use Rattle.ranges.specs.Refusals.{outOfRange}
+use Rattle.ranges.specs.Sizes.{rowWidth}
 use Rattle.hydrostatics.specs.Row.{numbersOf}
 use Rattle.hydrostatics.specs.declared.Display.{Display}
 use Rattle.hydrostatics.specs.declared.Display.the-variants.{Shown, Refused}
@@ -36,7 +37,7 @@ figuresOf row = record {
 unfoldable pub displayOf : Row → Outcome Figures
 displayOf row =
     let outside = firstOutside rowRanges (map pos (numbersOf row)) in
-    if ltb outside 7 then refused outOfRange outside else answered (figuresOf row)
+    if ltb outside rowWidth then refused outOfRange outside else answered (figuresOf row)
 
 -- the paper's number and values for each answer
 abbrev pub paper : Display → Outcome Figures

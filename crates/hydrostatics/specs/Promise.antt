@@ -4,6 +4,7 @@ use mathlib.Core.Path.{_≡_}
 use mathlib.Core.List.{List, _++_}
 use lib.ListN.{length, drop}
 use Rattle.ranges.specs.Outcome.{Outcome, answered, refused}
+use Rattle.ranges.specs.Sizes.{rowWidth}
 use Rattle.ranges.specs.declared.Particulars.{Particulars}
 use Rattle.hydrostatics.specs.Rows.{rowsOf}
 use Rattle.hydrostatics.specs.declared.Rows.{Rows}
@@ -15,7 +16,7 @@ paper (Made count) = answered count
 paper (Refused r) = refused (r .number) (r .place)
 
 unfoldable pub countOf : Outcome (List ℕ) → Outcome ℕ
-countOf (answered numbers) = answered (length numbers / 7)
+countOf (answered numbers) = answered (length numbers / rowWidth)
 countOf (refused number place) = refused number place
 
 -- "places beyond the last row stay as they were"; a refusal leaves the table as it was

@@ -1,5 +1,5 @@
 -- What the rows of a hull come to: the numbers of all rows, or the first refusal in the paper's order.
-use Prim.Native.Nat.{ℕ, zero, suc, _+_, _*_, _-_}
+use Prim.Native.Nat.{ℕ, zero, suc, _+_, _*_}
 use mathlib.Core.Bool.{not}
 use mathlib.Core.List.{List, [], _++_, map}
 use lib.Dec.{leb, ltb, eqb}
@@ -10,7 +10,7 @@ use Rattle.ranges.specs.Fields.{particulars, halfBreadth, highestMetacentre}
 use Rattle.ranges.specs.Outcome.{Outcome, answered, refused, andThen}
 use Rattle.ranges.specs.Outside.{firstOutside, numbersOf}
 use Rattle.ranges.specs.Refusals.{outOfRange, wrongSize, displacementNotRising, metacentreTooHigh, placeOfHalfBreadths, halfBreadthTable, rowTable}
-use Rattle.ranges.specs.Sizes.{pointsOf}
+use Rattle.ranges.specs.Sizes.{rowWidth, rowsOver, pointsOf}
 use Rattle.ranges.specs.declared.Particulars.{Particulars}
 use Rattle.hydrostatics.specs.Row.{rowOf}
 use Rattle.hydrostatics.specs.Row as Row
@@ -36,6 +36,6 @@ module _ (table : List ℕ) (p : Particulars) where
       let badHalfBreadth = firstOutside halfBreadth (map pos table) in
       if ltb badParticular (length particulars) then refused outOfRange badParticular
       else if not (eqb (length table) (pointsOf (p .n) (p .m))) then refused wrongSize halfBreadthTable
-      else if ltb room (7 * (p .m - 1)) then refused wrongSize rowTable
+      else if ltb room (rowWidth * rowsOver (p .m)) then refused wrongSize rowTable
       else if ltb badHalfBreadth (length table) then refused outOfRange (placeOfHalfBreadths + badHalfBreadth)
-      else rowsUpTo (p .m - 1)
+      else rowsUpTo (rowsOver (p .m))

@@ -5,40 +5,41 @@ use mathlib.Core.Bool.{Bool, true, _&&_, _||_}
 use mathlib.Core.List.{List, map}
 use lib.Dec.{ltb, eqb}
 use lib.IntN.{pos}
-use lib.ListN.{length, getD, take, drop}
+use lib.ListN.{getD, take, drop}
 use Rattle.arithmetic.specs.Choice.{if_then_else_}
-use Rattle.ranges.specs.Fields.{_to_, within, rowRanges}
+use Rattle.ranges.specs.Fields.{within, rangeOf, rowRanges}
 use Rattle.ranges.specs.Outcome.{Outcome, answered, refused, andThen}
 use Rattle.ranges.specs.Outside.{firstOutside}
 use Rattle.ranges.specs.Refusals.{rowsNotUsable}
+use Rattle.ranges.specs.Sizes.{rowWidth}
 use Rattle.hydrostatics.specs.Row.{waterlineOf}
 use Rattle.hydrostatics.specs.declared.Row.{Row}
 
 module _ (rows : List ℕ) where
   -- "Each row goes into the part of the lent table that starts at seven times its number"
   abbrev pub seven : ℕ → List ℕ
-  seven r = take 7 (drop (7 * r) rows)
+  seven r = take rowWidth (drop (rowWidth * r) rows)
 
   unfoldable pub rowIn : ℕ → Row
   rowIn r = record {
-    draft = getD rows (7 * r) 0;
-    displacement = getD rows (7 * r + 1) 0;
-    lcb = getD rows (7 * r + 2) 0;
-    kb = getD rows (7 * r + 3) 0;
-    bm = getD rows (7 * r + 4) 0;
-    km = getD rows (7 * r + 5) 0;
-    area = getD rows (7 * r + 6) 0;
+    draft = getD rows (rowWidth * r) 0;
+    displacement = getD rows (rowWidth * r + 1) 0;
+    lcb = getD rows (rowWidth * r + 2) 0;
+    kb = getD rows (rowWidth * r + 3) 0;
+    bm = getD rows (rowWidth * r + 4) 0;
+    km = getD rows (rowWidth * r + 5) 0;
+    area = getD rows (rowWidth * r + 6) 0;
   }
 
-  -- g, the distance between waterlines
+  -- g, the distance between waterlines, field 3
   abbrev pub spacing : ℕ
   spacing = rowIn 0 .draft / 2
 
   unfoldable pub inRange : ℕ → Bool
-  inRange r = eqb (firstOutside rowRanges (map pos (seven r))) 7
+  inRange r = eqb (firstOutside rowRanges (map pos (seven r))) rowWidth
 
   unfoldable pub spaced : ℕ → Bool
-  spaced r = eqb (2 * spacing) (rowIn 0 .draft) && within (10 to 500) (pos spacing) && eqb (rowIn r .draft) (waterlineOf r * spacing)
+  spaced r = eqb (2 * spacing) (rowIn 0 .draft) && within (rangeOf 3) (pos spacing) && eqb (rowIn r .draft) (waterlineOf r * spacing)
 
   unfoldable pub rises : ℕ → Bool
   rises zero = true

@@ -12,6 +12,7 @@ ghost use Rattle.ranges.specs.Outside.{firstOutside};
 ghost use Rattle.hydrostatics.specs.Display.{paper, figuresOf, displayOf};
 ghost use Rattle.hydrostatics.specs.Promise.{MakesRows};
 ghost use Rattle.ranges.specs.Fields.{rowRanges};
+ghost use Rattle.ranges.specs.Sizes.{rowWidth};
 ghost use Rattle.hydrostatics.specs.Row.{numbersOf};
 use ranges::Particulars;
 use ranges::Refusal;
@@ -113,7 +114,7 @@ fn divided(n: u64, unit: f64) -> f64
 
 // The figures of a row whose numbers are in range.
 fn figures_of(row: Row) -> Figures
-    requires { ⌜ firstOutside rowRanges (map pos (numbersOf row)) ≡ 7 ⌝ }
+    requires { ⌜ firstOutside rowRanges (map pos (numbersOf row)) ≡ rowWidth ⌝ }
     ensures { λ r. ⌜ r ≡ figuresOf row ⌝ }
 {
     Figures {

@@ -2,9 +2,10 @@
 // the lent table.
 ghost use mathlib.Core.Path.{_≡_};
 ghost use mathlib.Core.List.{List, _++_};
-ghost use Prim.Native.Nat.{ℕ, _+_, _*_, _-_, _≤_, _<_};
+ghost use Prim.Native.Nat.{ℕ, _*_, _≤_};
 ghost use lib.ListN.{length, getD, drop};
 ghost use Rattle.ranges.specs.Outcome.{refused as Outcome·refused};
+ghost use Rattle.ranges.specs.Sizes.{rowWidth, rowsOver, mostRows};
 ghost use Rattle.hydrostatics.specs.Promise.{paper};
 ghost use Rattle.hydrostatics.specs.Row.{rowAt, numbersOf};
 ghost use Rattle.hydrostatics.specs.Private.Table.{noRow, numbersUpTo, TriedRows, FillsRows};
@@ -19,6 +20,8 @@ use crate::waterplanes::row_sums;
 use crate::waterplanes::station_multipliers;
 use crate::waterplanes::waterplane_sums;
 use ranges::HIGHEST_METACENTRE;
+use ranges::MOST_STATIONS;
+use ranges::MOST_WATERLINES;
 use ranges::Particulars;
 use ranges::Refusal;
 
@@ -86,9 +89,9 @@ fn row_from(p: Particulars, k: usize, sums: Sums, q: u64, c: u64) -> Row
 // The row of waterline k, from what is kept of the hull.
 fn row_at(
     table: &[u64],
-    u: &[u64; 41],
-    q: &[u64; 21],
-    x: &[u64; 21],
+    u: &[u64; MOST_STATIONS],
+    q: &[u64; MOST_WATERLINES],
+    x: &[u64; MOST_WATERLINES],
     p: Particulars,
     k: usize,
 ) -> Row
@@ -108,7 +111,13 @@ pub(crate) fn refused(number: u64, place: usize) -> Rows
 }
 
 // Every row made and tried, row by row upward, from what is kept of the hull.
-fn try_upward(table: &[u64], u: &[u64; 41], q: &[u64; 21], x: &[u64; 21], p: Particulars) -> Tried
+fn try_upward(
+    table: &[u64],
+    u: &[u64; MOST_STATIONS],
+    q: &[u64; MOST_WATERLINES],
+    x: &[u64; MOST_WATERLINES],
+    p: Particulars,
+) -> Tried
     requires { ⌜ (Given (now table) p (now u)) × (Kept (now table) p (now q) (now x)) ⌝ }
     ensures { λ r. ⌜ TriedRows (now (table .entry)) p r ⌝ }
 {
@@ -150,8 +159,8 @@ fn try_rows(table: &[u64], p: Particulars) -> Tried
 
 // One row, into the front of the part of the table that it is lent.
 fn write_row(row: Row, part: &mut [u64])
-    requires { ⌜ 7 ≤ length (now part) ⌝ }
-    ensures { λ _. ⌜ now (part .exit) ≡ numbersOf row ++ drop 7 (now (part .entry)) ⌝ }
+    requires { ⌜ rowWidth ≤ length (now part) ⌝ }
+    ensures { λ _. ⌜ now (part .exit) ≡ numbersOf row ++ drop rowWidth (now (part .entry)) ⌝ }
 {
     part[0] = row.draft;
     part[1] = row.displacement;
@@ -164,8 +173,8 @@ fn write_row(row: Row, part: &mut [u64])
 
 // Each of the first `count` rows, into the part of the table that starts at seven times its number.
 fn write_rows(made: [Row; MOST_ROWS], count: usize, rows: &mut [u64])
-    requires { ⌜ (count ≤ 19) × (7 * count ≤ length (now rows)) ⌝ }
-    ensures { λ _. ⌜ now (rows .exit) ≡ numbersUpTo (λ r. getD made r noRow) count ++ drop (7 * count) (now (rows .entry)) ⌝ }
+    requires { ⌜ (count ≤ mostRows) × (rowWidth * count ≤ length (now rows)) ⌝ }
+    ensures { λ _. ⌜ now (rows .exit) ≡ numbersUpTo (λ r. getD made r noRow) count ++ drop (rowWidth * count) (now (rows .entry)) ⌝ }
 {
     let mut r: usize = 0;
     while r < count {
@@ -178,7 +187,7 @@ fn write_rows(made: [Row; MOST_ROWS], count: usize, rows: &mut [u64])
 
 // The rows of a hull in range: tried first, with the table untouched, and written once all have passed.
 pub(crate) fn fill_rows(table: &[u64], p: Particulars, rows: &mut [u64]) -> Rows
-    requires { ⌜ (InRange (now table) p) × (7 * (p .m - 1) ≤ length (now rows)) ⌝ }
+    requires { ⌜ (InRange (now table) p) × (rowWidth * rowsOver (p .m) ≤ length (now rows)) ⌝ }
     ensures { λ r. ⌜ FillsRows (now (table .entry)) p (now (rows .entry)) (now (rows .exit)) r ⌝ }
 {
     let tried = try_rows(table, p);

@@ -2,9 +2,12 @@
 // a row costs its waterlines and not the whole hull again.
 ghost use mathlib.Core.Path.{_≡_};
 ghost use Prim.Native.Nat.{_+_, _≤_};
+ghost use Rattle.ranges.specs.Fields.{rangeOf, most};
 ghost use Rattle.simpson.specs.Multipliers.{multiplier};
 ghost use Rattle.hydrostatics.specs.Hull.{halfBreadth, C};
 ghost use Rattle.hydrostatics.specs.Private.Waterplanes.{Filled, InRange, Given, WaterlineOf, Kept, Small, Over};
+use ranges::MOST_STATIONS;
+use ranges::MOST_WATERLINES;
 use ranges::Particulars;
 
 // The sums over one waterline: of u·y, and of u·y times the station's number.
@@ -15,8 +18,8 @@ pub(crate) struct Waterline {
 
 // The sums over every waterline.
 pub(crate) struct Waterplanes {
-    pub q: [u64; 21],
-    pub x: [u64; 21],
+    pub q: [u64; MOST_WATERLINES],
+    pub x: [u64; MOST_WATERLINES],
 }
 
 // The sums over the waterlines of a row: of u·v·y, and of each term times its waterline's and times its station's number.
@@ -27,11 +30,11 @@ pub(crate) struct Sums {
 }
 
 // The multipliers of the stations over n intervals.
-pub(crate) fn station_multipliers(n: usize) -> [u64; 41]
-    requires { ⌜ n ≤ 40 ⌝ }
+pub(crate) fn station_multipliers(n: usize) -> [u64; MOST_STATIONS]
+    requires { ⌜ n ≤ most (rangeOf 0) ⌝ }
     ensures { λ r. ⌜ Filled 0 (multiplier n) (n + 1) r ⌝ }
 {
-    let mut u = [0u64; 41];
+    let mut u = [0u64; MOST_STATIONS];
     let mut i: usize = 0;
     while i <= n {
         u[i] = simpson::multiplier(n, i);
@@ -49,7 +52,7 @@ fn half_breadth_at(table: &[u64], p: Particulars, i: usize, j: usize) -> u64
 }
 
 // The sums over waterline j.
-fn waterline_sums(table: &[u64], u: &[u64; 41], p: Particulars, j: usize) -> Waterline
+fn waterline_sums(table: &[u64], u: &[u64; MOST_STATIONS], p: Particulars, j: usize) -> Waterline
     requires { ⌜ (Given (now table) p (now u)) × (j ≤ p .m) ⌝ }
     ensures { λ r. ⌜ WaterlineOf (now (table .entry)) p j r ⌝ }
 {
@@ -67,13 +70,17 @@ fn waterline_sums(table: &[u64], u: &[u64; 41], p: Particulars, j: usize) -> Wat
 }
 
 // The sums over every waterline, each made once.
-pub(crate) fn waterplane_sums(table: &[u64], u: &[u64; 41], p: Particulars) -> Waterplanes
+pub(crate) fn waterplane_sums(
+    table: &[u64],
+    u: &[u64; MOST_STATIONS],
+    p: Particulars,
+) -> Waterplanes
     requires { ⌜ Given (now table) p (now u) ⌝ }
     ensures { λ r. ⌜ Kept (now (table .entry)) p (r .q) (r .x) ⌝ }
 {
     let m = p.m;
-    let mut q = [0u64; 21];
-    let mut x = [0u64; 21];
+    let mut q = [0u64; MOST_WATERLINES];
+    let mut x = [0u64; MOST_WATERLINES];
     let mut j: usize = 0;
     while j <= m {
         let line = waterline_sums(table, u, p, j);
@@ -85,7 +92,7 @@ pub(crate) fn waterplane_sums(table: &[u64], u: &[u64; 41], p: Particulars) -> W
 }
 
 // The sum of u·y³ over waterline k.
-pub(crate) fn cube_sum(table: &[u64], u: &[u64; 41], p: Particulars, k: usize) -> u64
+pub(crate) fn cube_sum(table: &[u64], u: &[u64; MOST_STATIONS], p: Particulars, k: usize) -> u64
     requires { ⌜ (Given (now table) p (now u)) × (k ≤ p .m) ⌝ }
     ensures { λ r. ⌜ r ≡ C (now (table .entry)) p k ⌝ }
 {
@@ -101,7 +108,7 @@ pub(crate) fn cube_sum(table: &[u64], u: &[u64; 41], p: Particulars, k: usize) -
 }
 
 // The sums over the waterlines 0..k, from what is kept of each.
-pub(crate) fn row_sums(q: &[u64; 21], x: &[u64; 21], k: usize) -> Sums
+pub(crate) fn row_sums(q: &[u64; MOST_WATERLINES], x: &[u64; MOST_WATERLINES], k: usize) -> Sums
     requires { ⌜ Small k (now q) (now x) ⌝ }
     ensures { λ r. ⌜ Over k (now (q .entry)) (now (x .entry)) r ⌝ }
 {

@@ -105,13 +105,12 @@ pub const MOST_DRAFT_INTERVALS: u64 = 20;
 
 pub const HIGHEST_METACENTRE: u64 = 100_000;
 
-// The most stations and waterlines, one more than the intervals; the most rows, one for each waterline from number 2 up; the
-// most items and tanks.
+// The most stations and waterlines, n + 1 and m + 1; the most rows, m − 1; the most items and tanks.
 pub const MOST_STATIONS: usize = MOST_LENGTH_INTERVALS as usize + 1;
 
 pub const MOST_WATERLINES: usize = MOST_DRAFT_INTERVALS as usize + 1;
 
-pub const MOST_ROWS: usize = MOST_WATERLINES - 2;
+pub const MOST_ROWS: usize = MOST_DRAFT_INTERVALS as usize - 1;
 
 pub const MOST_ITEMS: usize = 32;
 

@@ -2,6 +2,7 @@
 use Prim.Native.Nat.{_+_, _≤_}
 use native.Mathlib.Omega.{arith}
 use Rattle.arithmetic.proofs.Products.{product-fits}
+use Rattle.ranges.specs.Fields.{rangeOf, most}
 use Rattle.hydrostatics.proofs.Answers.{particulars-told, hull-told, bad-particular, wrong-table, wrong-room, bad-half-breadth, rows-follow, refuses, makes}
 use borrow.Author.Needs.{needs}
 use Rattle.hydrostatics.proofs.make_rows.Statement.{statement}
@@ -28,8 +29,8 @@ mul-if2 : tie.Need-mul-if2
 mul-if2 c =
     let range = particulars-told (c .before .particular-outside .ensures) (c .if1 .left) in
     let p = c .before .before .before .before .args .p in
-    let stations : p .n + 1 ≤ 41 = omega arith in
-    let waterlines : p .m + 1 ≤ 21 = omega arith in
+    let stations : p .n + 1 ≤ most (rangeOf 0) + 1 = omega arith in
+    let waterlines : p .m + 1 ≤ most (rangeOf 1) + 1 = omega arith in
     product-fits stations waterlines tt
 
 refused-requires-2 : tie.Need-refused-requires-2

@@ -1,7 +1,8 @@
 -- What the code keeps of the rows until they are written, and what its private functions promise of it. No definition of a row cites this file.
-use Prim.Native.Nat.{ℕ, zero, suc, _-_}
+use Prim.Native.Nat.{ℕ, zero, suc}
 use mathlib.Core.Path.{_≡_}
 use mathlib.Core.List.{List, [], _++_}
+use Rattle.ranges.specs.Sizes.{rowsOver}
 use Rattle.ranges.specs.declared.Particulars.{Particulars}
 use Rattle.hydrostatics.specs.Promise.{paper, countOf, tableAfter}
 use Rattle.hydrostatics.specs.Row.{rowOf, numbersOf}
@@ -22,10 +23,10 @@ numbersUpTo row (suc r) = numbersUpTo row r ++ numbersOf (row r)
 
 -- the answer, and under a success every row
 pub record TriedRows (table : List ℕ) (p : Particulars) (tried : Tried) : Type 0 where
-  pub answer-is : paper (tried .answer) ≡ countOf (rowsUpTo table p (p .m - 1))
+  pub answer-is : paper (tried .answer) ≡ countOf (rowsUpTo table p (rowsOver (p .m)))
   pub rows-are : (count : ℕ) → tried .answer ≡ Made count → Filled noRow (rowOf table p) count (tried .rows)
 
 -- what making the rows of a hull in range leaves
 pub record FillsRows (table : List ℕ) (p : Particulars) (rows rowsAfter : List ℕ) (answer : Rows) : Type 0 where
-  pub answer-is : paper answer ≡ countOf (rowsUpTo table p (p .m - 1))
-  pub left : rowsAfter ≡ tableAfter (rowsUpTo table p (p .m - 1)) rows
+  pub answer-is : paper answer ≡ countOf (rowsUpTo table p (rowsOver (p .m)))
+  pub left : rowsAfter ≡ tableAfter (rowsUpTo table p (rowsOver (p .m))) rows

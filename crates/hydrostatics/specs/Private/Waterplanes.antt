@@ -1,9 +1,11 @@
 -- What the code keeps of a hull from row to row, and what its private functions promise one another. No definition of a row cites this file.
-use Prim.Native.Nat.{ℕ, _+_, _*_, _≤_, _<_}
+use Prim.Native.Nat.{ℕ, _+_, _*_, _^_, _≤_, _<_}
 use mathlib.Core.Path.{_≡_}
 use mathlib.Core.List.{List}
 use lib.ListN.{length, getD}
+use Rattle.ranges.specs.Fields.{rangeOf, most}
 use Rattle.ranges.specs.Private.InRange.{ParticularsInRange, HalfBreadthsInRange}
+use Rattle.ranges.specs.Sizes.{pointsOf}
 use Rattle.ranges.specs.declared.Particulars.{Particulars}
 use Rattle.simpson.specs.Multipliers.{multiplier}
 use Rattle.simpson.specs.Curve.{curve}
@@ -19,7 +21,7 @@ pub record Filled {A : Type 0} (none : A) (f : ℕ → A) (count : ℕ) (l : Lis
 pub record InRange (table : List ℕ) (p : Particulars) : Type 0 where
   pub particulars : ParticularsInRange p
   pub half-breadths : HalfBreadthsInRange table
-  pub complete : length table ≡ (p .n + 1) * (p .m + 1)
+  pub complete : length table ≡ pointsOf (p .n) (p .m)
 
 -- and its station multipliers u
 pub record Given (table : List ℕ) (p : Particulars) (u : List ℕ) : Type 0 where
@@ -39,11 +41,30 @@ pub record Kept (table : List ℕ) (p : Particulars) (q x : List ℕ) : Type 0 w
   pub q-is : Filled 0 (Q table p) (p .m + 1) q
   pub x-is : Filled 0 (X table p) (p .m + 1) x
 
--- how large the sums of a waterline are, up to waterline k
+-- how large the sums are that a hull in range may have: of a waterline, by the rectangle around it, and of a row, by the box around the hull
+abbrev pub mostQ : ℕ
+mostQ = most (rangeOf 5) * (24 * most (rangeOf 0))
+
+abbrev pub mostX : ℕ
+mostX = most (rangeOf 0) * mostQ
+
+abbrev pub mostC : ℕ
+mostC = most (rangeOf 5) ^ 3 * (24 * most (rangeOf 0))
+
+abbrev pub mostS : ℕ
+mostS = mostQ * (24 * most (rangeOf 1))
+
+abbrev pub mostSz : ℕ
+mostSz = most (rangeOf 1) * mostS
+
+abbrev pub mostSx : ℕ
+mostSx = most (rangeOf 0) * mostS
+
+-- what is kept of the waterlines up to waterline k is no larger
 pub record Small (k : ℕ) (q x : List ℕ) : Type 0 where
-  pub k-most : k ≤ 20
-  pub q-most : (j : ℕ) → j ≤ k → getD q j 0 ≤ 7_680_000
-  pub x-most : (j : ℕ) → j ≤ k → getD x j 0 ≤ 307_200_000
+  pub k-most : k ≤ most (rangeOf 1)
+  pub q-most : (j : ℕ) → j ≤ k → getD q j 0 ≤ mostQ
+  pub x-most : (j : ℕ) → j ≤ k → getD x j 0 ≤ mostX
 
 -- the sums over the waterlines 0..k, each curve through what is kept of them
 pub record Over (k : ℕ) (q x : List ℕ) (sums : Sums) : Type 0 where
@@ -62,9 +83,9 @@ pub record SumsOf (table : List ℕ) (p : Particulars) (k : ℕ) (sums : Sums) (
 -- and how large they are
 pub record SumsWithin (p : Particulars) (k : ℕ) (sums : Sums) (q c : ℕ) : Type 0 where
   pub particulars : ParticularsInRange p
-  pub k-most : k ≤ 20
-  pub sum-most : sums .sum ≤ 3_686_400_000
-  pub sz-most : sums .sz ≤ 73_728_000_000
-  pub sx-most : sums .sx ≤ 147_456_000_000
-  pub q-most : q ≤ 7_680_000
-  pub c-most : c ≤ 491_520_000_000_000
+  pub k-most : k ≤ most (rangeOf 1)
+  pub sum-most : sums .sum ≤ mostS
+  pub sz-most : sums .sz ≤ mostSz
+  pub sx-most : sums .sx ≤ mostSx
+  pub q-most : q ≤ mostQ
+  pub c-most : c ≤ mostC

@@ -3,6 +3,7 @@ use Prim.Native.Nat.{_+_, _-_, _*_, _^_, _≤_}
 use mathlib.Core.Path.{sym, ap, _∙_}
 use native.Mathlib.Omega.{arith}
 use Rattle.arithmetic.proofs.Ring.{pow3}
+use Rattle.ranges.specs.Fields.{rangeOf, most}
 use Rattle.hydrostatics.specs.Hull.{halfBreadth}
 use Rattle.hydrostatics.proofs.Exchange.{C-is}
 use Rattle.hydrostatics.proofs.Limits.{half-breadth-le, powers-le}
@@ -29,7 +30,7 @@ mul-c c = omega arith
 element-copy-out-c : tie.Need-element-copy-out-c Inv-loop μ-loop
 element-copy-out-c c = omega arith
 
-y-most : (c : tie.After-c Inv-loop μ-loop) → c .before .half-breadth-at .result ≤ 8_000
+y-most : (c : tie.After-c Inv-loop μ-loop) → c .before .half-breadth-at .result ≤ most (rangeOf 5)
 y-most c =
     rw (c .before .half-breadth-at .ensures) (half-breadth-le (c .before .before .before .before .before .pre .0 .hull) _ _)
 

@@ -3,13 +3,14 @@ use Prim.Native.Nat.{_+_, _-_, _≤_}
 use mathlib.Core.Path.{refl}
 use native.Mathlib.Omega.{arith}
 use borrow.Author.Needs.{needs}
+use Rattle.ranges.specs.Fields.{rangeOf, most}
 use Rattle.simpson.specs.Multipliers.{multiplier}
 use Rattle.hydrostatics.proofs.Filling.{Filling, filling-none, filling-more, filling-all}
 use Rattle.hydrostatics.proofs.waterplanes.station_multipliers.Statement.{statement}
 use Rattle.hydrostatics.proofs.waterplanes.station_multipliers.Tie as tie
 
 abbrev Inv-loop : tie.InvT-loop
-Inv-loop n u₀ i₀ u i = (i ≤ n + 1) × Filling 0 (multiplier n) 41 i u
+Inv-loop n u₀ i₀ u i = (i ≤ n + 1) × Filling 0 (multiplier n) (most (rangeOf 0) + 1) i u
 
 abbrev μ-loop : tie.MeasureT-loop
 μ-loop n u₀ i₀ u i = n + 1 - i

@@ -2,6 +2,7 @@
 use Prim.Native.Nat.{_+_, _-_, _≤_}
 use mathlib.Core.Path.{refl}
 use native.Mathlib.Omega.{arith}
+use Rattle.ranges.specs.Fields.{rangeOf, most}
 use Rattle.hydrostatics.specs.Hull.{Q}
 use Rattle.hydrostatics.specs.Private.Waterplanes.{X}
 use Rattle.hydrostatics.proofs.Filling.{Filling, filling-none, filling-more, filling-all}
@@ -9,7 +10,7 @@ use Rattle.hydrostatics.proofs.waterplanes.waterplane_sums.Statement.{s
 use Rattle.hydrostatics.proofs.waterplanes.waterplane_sums.Tie as tie
 
 abbrev Inv-loop : tie.InvT-loop
-Inv-loop table u p m q₀ x₀ j₀ q x j = (j ≤ m + 1) × Filling 0 (Q table p) 21 j q × Filling 0 (X table p) 21 j x
+Inv-loop table u p m q₀ x₀ j₀ q x j = (j ≤ m + 1) × Filling 0 (Q table p) (most (rangeOf 1) + 1) j q × Filling 0 (X table p) (most (rangeOf 1) + 1) j x
 
 abbrev μ-loop : tie.MeasureT-loop
 μ-loop table u p m q₀ x₀ j₀ q x j = m + 1 - j
