@@ -1,6 +1,6 @@
 -- Whole numbers of either sign and the 64 bits that hold one: −2⁶³ to 2⁶³ − 1.
 -- Their laws: `Crossing` of proofs/.
-use Prim.Native.Nat.{ℕ, _-_, _^_, min}
+use Prim.Native.Nat.{_-_, _^_, min}
 use mathlib.Core.Bool.{Bool, true, false}
 use lib.IntN.{ℤ, pos, negsuc}
 

@@ -8,16 +8,15 @@
 --     half-breadths-in-range, particulars-in-range      the same as facts
 --     records-are                           what a count of whole records is
 -- Assumes nothing.
-use mathlib.Core.Path.{_≡_, refl, sym, ap, _∙_}
+use mathlib.Core.Path.{_≡_, refl, sym, _∙_}
 use mathlib.Core.Bool.{Bool, true, false, _&&_}
 use mathlib.Core.List.{List, [], _∷_, map}
 use Prim.Native.Nat.{ℕ, zero, suc, _+_, _%_, _/_, _≤_, _<_}
 use native.Mathlib.Nat.{zero-add, add-zero, mod-one}
-use native.Mathlib.Numerals.{add-one}
 use native.Mathlib.Omega.{arith}
 use borrow.Author.Tests.{leb-true, le-leb, eqb-true}
 use lib.Dec.{leb, eqb}
-use lib.IntN.{ℤ, pos, negsuc, natAbs, negℤ, _-ℤ_, +ℤ-idl, +ℤ-idr}
+use lib.IntN.{ℤ, pos, negsuc, natAbs, _-ℤ_, +ℤ-idl, +ℤ-idr}
 use lib.ListN.{length, getD, List·getD-map, length-map}
 use Rattle.arithmetic.specs.Signed.{isNegative}
 use Rattle.arithmetic.specs.Choice.{if_then_else_}
@@ -29,7 +28,6 @@ use Rattle.ranges.specs.Private.InRange.{ParticularsInRange, HalfBreadth
 use Rattle.ranges.specs.Sides.{sidesOf}
 use Rattle.ranges.specs.Sizes.{wholeRecords}
 use Rattle.ranges.specs.declared.Particulars.{Particulars}
-use Rattle.ranges.specs.declared.Sides.{Sides}
 use Rattle.ranges.proofs.Outside.{outside-le}
 
 -- ---- sides

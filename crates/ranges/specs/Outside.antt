@@ -1,12 +1,11 @@
 -- Where the first number stands that is out of its range.
-use Prim.Native.Nat.{ℕ, zero, suc, _+_, _%_}
-use mathlib.Core.Bool.{Bool, true, false}
+use Prim.Native.Nat.{ℕ, _+_, _%_}
 use mathlib.Core.List.{List, [], _∷_, map}
 use lib.Dec.{ltb}
 use lib.IntN.{ℤ, pos, natAbs}
 use lib.ListN.{length, getD}
 use Rattle.arithmetic.specs.Choice.{if_then_else_}
-use Rattle.ranges.specs.Fields.{Range, _to_, within, particulars}
+use Rattle.ranges.specs.Fields.{Range, _to_, within}
 use Rattle.ranges.specs.declared.Particulars.{Particulars}
 
 -- The place of the first number out of range, in a table of records whose first field is number `place` of the table; the place after the last where all are in range.

@@ -1,5 +1,5 @@
 -- A signed y as its two sides, in mm from the middle line: to starboard where it is above 0, to port where it is below.
-use Prim.Native.Nat.{ℕ, suc}
+use Prim.Native.Nat.{suc}
 use lib.IntN.{ℤ, pos, negsuc}
 use Rattle.ranges.specs.declared.Sides.{Sides}
 

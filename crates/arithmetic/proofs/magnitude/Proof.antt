@@ -1,6 +1,5 @@
 -- A negative number is raised by one and turned round, which 64 bits hold; the one is added again. Assumes nothing.
-use mathlib.Core.Path.{_≡_, sym, ap, _∙_}
-use lib.IntN.{natAbs}
+use mathlib.Core.Path.{sym, _∙_}
 use native.Mathlib.Omega.{arith}
 use borrow.Author.Needs.{needs}
 use Rattle.arithmetic.proofs.Crossing.{is-negative-is, cast-defined, Turned, turn}

@@ -1,7 +1,7 @@
 -- 0 is its own negation; any other n is turned as n - 1, and one is taken off. Assumes nothing.
-use mathlib.Core.Path.{_≡_, refl, sym, ap, _∙_}
+use mathlib.Core.Path.{_≡_, sym, ap, _∙_}
 use native.Mathlib.Omega.{arith}
-use Prim.Native.Nat.{ℕ, suc, _-_}
+use Prim.Native.Nat.{suc, _-_}
 use lib.IntN.{pos, negℤ}
 use borrow.Author.Needs.{needs}
 use Rattle.arithmetic.specs.Signed.{nearest}
