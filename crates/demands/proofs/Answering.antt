@@ -10,9 +10,8 @@ use lib.IntN.{ℤ, natAbs}
 use lib.ListN.{length}
 use Rattle.arithmetic.specs.Room.{laid}
 use Rattle.arithmetic.proofs.Room.{laid-short}
-use Rattle.ranges.specs.Outcome.{Outcome, refused}
+use Rattle.ranges.specs.Outcome.{Outcome, refused, Numbered}
 use Rattle.ranges.specs.Refusals.{roomTooShort}
-use Rattle.ranges.proofs.Numbered.{Numbered}
 use Rattle.ranges.proofs.Outcomes.{was-refused}
 use Rattle.ranges.specs.declared.Particulars.{Particulars}
 use Rattle.offsets.specs.File.{Contents}

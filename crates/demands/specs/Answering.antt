@@ -1,8 +1,7 @@
 -- What demand 1 asks of one call at one input.
 use mathlib.Core.Path.{_≡_}
 use Prim.Native.Nat.{ℕ}
-use Rattle.ranges.specs.Outcome.{Outcome, refused}
-use Rattle.ranges.proofs.Numbered.{Numbered}
+use Rattle.ranges.specs.Outcome.{Outcome, refused, Numbered}
 
 -- `Keeps`: the promise, of what a call hands back: its answer, and the tables that were lent to it for writing as it leaves them.
 -- `outcome`: the answer's values, or the number and place of its refusal. `Untouched`: these tables hold what they held before.
