@@ -33,24 +33,24 @@ module _ {table : List ℕ} {p : Particulars} (hull : InRange table p) where
   module _ {k : ℕ} (low : waterlineOf 0 ≤ k) (high : k ≤ most (rangeOf 1)) where
     pub draft-between : Between (range 0) (rowAt table p k .draft)
     unfolding rowAt
-    draft-between = (mul-le-mul (hull .particulars .d-least) low, mul-le-mul d-most high)
+    draft-between = (omega (arith, mul-le-mul (hull .particulars .d-least) low), omega (arith, mul-le-mul d-most high))
 
     pub displacement-le : rowAt table p k .displacement ≤ most (range 1)
     unfolding rowAt
     displacement-le =
-        div-le-of-le-mul _ (mul-le-mul (mul-le-mul (mul-le-mul s-most d-most) (S-most hull k high)) (hull .particulars .density-most))
+        div-le-of-le-mul _ (omega (arith, mul-le-mul (mul-le-mul (mul-le-mul s-most d-most) (S-most hull k high)) (hull .particulars .density-most)))
 
     pub lcb-le : rowAt table p k .lcb ≤ most (range 2)
     unfolding rowAt
-    lcb-le = le-trans (mean-le (p .s) (Sx table p k) (S table p k) (p .n) (Sx-le table p k)) (mul-le-mul s-most (hull .particulars .n-most))
+    lcb-le = le-trans (mean-le (p .s) (Sx table p k) (S table p k) (p .n) (Sx-le table p k)) (omega (arith, mul-le-mul s-most (hull .particulars .n-most)))
 
     pub kb-le : rowAt table p k .kb ≤ most (range 3)
     unfolding rowAt
-    kb-le = le-trans (mean-le (p .d) (Sz table p k) (S table p k) k (Sz-le table p k)) (mul-le-mul d-most high)
+    kb-le = le-trans (mean-le (p .d) (Sz table p k) (S table p k) k (Sz-le table p k)) (omega (arith, mul-le-mul d-most high))
 
     pub area-le : rowAt table p k .area ≤ most (range 6)
     unfolding rowAt
-    area-le = div-le-of-le-mul _ (mul-le-mul s-most (Q-most hull k))
+    area-le = div-le-of-le-mul _ (omega (arith, mul-le-mul s-most (Q-most hull k)))
 
     pub row-ranged : 0 < rowAt table p k .displacement → rowAt table p k .km ≤ highestMetacentre → RowInRange (rowAt table p k)
     row-ranged some under = record {

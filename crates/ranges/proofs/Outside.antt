@@ -2,7 +2,7 @@
 --     outside-step, outside-here, outside-end     the walk at place i: on, ended, past the last number
 --     outside-le                                  the first number outside stands in the table, or after its end
 --     field-next, field-after-lt                  the field after a field
---     Walking                                     the walk over a section of the fields, at place i
+--     section, Walking                            a section of the fields, and the walk over it at place i, whose number is of a field of its record
 --     walking-none, walking-more                  before the first number; one number more, in the code's `i + 1`
 --     walking-here, walking-all                   at a number outside, and past the last
 -- Assumes nothing.
@@ -60,8 +60,8 @@ pub field-after-lt : (k width : ℕ) → 0 < width → fieldAfter k width < widt
 unfolding fieldAfter
 field-after-lt k width h = if-either (λ n. n < width) (ltb (k + 1) width) (λ t. ltb-true (k + 1) width t) (λ t. h)
 
--- ---- the walk that the code makes: at place i, whose number is of field `field` of its record
--- the fields that a table's records have, `width` from number `first` on
+-- ---- the walk that the code makes
+-- the fields of a table's records: `width` from number `first` on
 abbrev pub section : ℕ → ℕ → List Range
 section first width = take width (drop first fields)
 

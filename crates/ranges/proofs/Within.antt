@@ -1,7 +1,9 @@
 -- A number against the range that the code keeps of its field.
---     within-kept                               the field's range, by what is kept of it
---     whole-on-either-side, below-on-either-side, below-from-to      a range on either side of 0, and one from 0 on, below 0
---     within-by-size                            a number that is not below 0 is held to its range by its size
+--     within-kept                  the field's range, by what is kept of it
+--     whole-on-either-side         a range that reaches below 0: a number from 0 on
+--     below-on-either-side         and one below 0
+--     below-from-to                a range from 0 on has no number below 0
+--     within-by-size               a number that is not below 0 is held to its range by its size
 -- Assumes nothing.
 use mathlib.Core.Path.{_≡_, refl, sym, ap, _∙_}
 use mathlib.Core.Bool.{Bool, true, false}
