@@ -2,9 +2,9 @@
 --     digits-more, digits-at-zero          the digits that a text begins with: one and those after it; none where none may be taken
 --     NoDigit, digits-none                 a text that ends, or goes on with another byte, begins with none
 --     digits-prefix, length-of-digits, all-of-digits     they stand at the text's front, and are digits
---     digits-stop, digits-within           where no digit follows: digits are all there are; they reach no further
+--     digits-stop                          where no digit follows, digits are all there are
 --     front-of-minus, front-of-plain       the front, by its sign
---     front-is-prefix, front-within        it stands at the text's front, and reaches no further than a token where no digit follows
+--     front-is-prefix                      it stands at the text's front
 --     front-of-number                      a token that says a number, where no digit follows, is the front
 -- Of a token t in a text, at place `at` and before `rest` (of a text in three parts: `drop-append-seam before (t ++ rest)`, of lib.Seq):
 --     numeral-of-number                    a number that it says is found there, with the place after it
@@ -23,7 +23,7 @@ use lib.ListN.{length, take, drop, getD, length-take, List·getD-append}
 use lib.Seq.{take-at}
 use Rattle.arithmetic.proofs.Choice.{chosen, if-either}
 use Rattle.numerals.specs.Number.{minus, isDigit, allDigits, numberOf}
-use Rattle.numerals.specs.Front.{digitsOf, front, endsAt, numeralAt}
+use Rattle.numerals.specs.Front.{digitsOf, enoughDigits, front, endsAt, numeralAt}
 use Rattle.numerals.specs.declared.reading.Number.{Number}
 use Rattle.numerals.specs.declared.reading.Number.the-variants.{Is, Not}
 use Rattle.numerals.specs.declared.reading.Numeral.{Numeral}
@@ -76,37 +76,22 @@ digits-stop (suc most) (b ∷ l) rest h e n =
     let t = both (isDigit b) (allDigits l) e in
     digits-more most b (l ++ rest) (t .0) ∙ ap (λ m. b ∷ m) (digits-stop most l rest (omega arith) (t .1) n)
 
-pub digits-within : (most : ℕ) (l rest : List ℕ) → NoDigit rest → length (digitsOf most (l ++ rest)) ≤ length l
-unfolding digitsOf
-digits-within most [] rest n = rw (digits-none most n) (lit≤ tt)
-digits-within zero (b ∷ l) rest n = omega arith
-digits-within (suc most) (b ∷ l) rest n =
-    let more : suc (length (digitsOf most (l ++ rest))) ≤ suc (length l) = omega (arith, digits-within most l rest n) in
-    if-either (λ (m : List ℕ). length m ≤ suc (length l)) (isDigit b) (λ e. more) (λ e. zero-le)
-
 -- ---- the front
-pub front-of-minus : (l : List ℕ) → front (minus ∷ l) ≡ minus ∷ digitsOf 10 l
+pub front-of-minus : (l : List ℕ) → front (minus ∷ l) ≡ minus ∷ digitsOf enoughDigits l
 unfolding front
 front-of-minus l = simp chosen
 
-pub front-of-plain : (l : List ℕ) → (getD l 0 0 ≡ minus → ⊥) → front l ≡ digitsOf 10 l
+pub front-of-plain : (l : List ℕ) → (getD l 0 0 ≡ minus → ⊥) → front l ≡ digitsOf enoughDigits l
 unfolding front
-front-of-plain [] h = sym (digits-none 10 ended)
+front-of-plain [] h = sym (digits-none enoughDigits ended)
 front-of-plain (b ∷ l) h = simp (ne-eqb b minus h, chosen)
 
 pub front-is-prefix : (l : List ℕ) → front l ≡ take (length (front l)) l
 front-is-prefix l = go (sign-of l)
   where
     go : {l : List ℕ} → Signed l → front l ≡ take (length (front l)) l
-    go (after-minus l) = rw (front-of-minus l) (ap (λ m. minus ∷ m) (digits-prefix 10 l))
-    go (plain {l} h) = rw (front-of-plain l h) (digits-prefix 10 l)
-
-pub front-within : (t rest : List ℕ) → 0 < length t → NoDigit rest → length (front (t ++ rest)) ≤ length t
-unfolding front
-front-within [] rest h n = absurd (omega arith)
-front-within (b ∷ t) rest h n =
-    let signed : suc (length (digitsOf 10 (t ++ rest))) ≤ suc (length t) = omega (arith, digits-within 10 t rest n) in
-    if-either (λ (m : List ℕ). length m ≤ suc (length t)) (eqb b minus) (λ e. signed) (λ e. digits-within 10 (b ∷ t) rest n)
+    go (after-minus l) = rw (front-of-minus l) (ap (λ m. minus ∷ m) (digits-prefix enoughDigits l))
+    go (plain {l} h) = rw (front-of-plain l h) (digits-prefix enoughDigits l)
 
 pub front-of-number : (t rest : List ℕ) {v : ℤ} → numberOf t ≡ Is v → NoDigit rest → front (t ++ rest) ≡ t
 front-of-number t rest e n = go (sign-of t) e
@@ -114,11 +99,11 @@ front-of-number t rest e n = go (sign-of t) e
     go : {t : List ℕ} → Signed t → {v : ℤ} → numberOf t ≡ Is v → front (t ++ rest) ≡ t
     go (after-minus l) e =
         let w = said-parts true l (sym (number-of-minus l) ∙ e) .0 in
-        front-of-minus (l ++ rest) ∙ ap (λ m. minus ∷ m) (digits-stop 10 l rest (omega arith) (w .all) n)
+        front-of-minus (l ++ rest) ∙ ap (λ m. minus ∷ m) (digits-stop enoughDigits l rest (omega arith) (w .all) n)
     go (plain {l} h) e =
         let w = said-parts false l (sym (number-of-plain l h) ∙ e) .0 in
         front-of-plain (l ++ rest) (λ z. h (sym (List·getD-append l rest 0 0 (w .some)) ∙ z))
-        ∙ digits-stop 10 l rest (omega arith) (w .all) n
+        ∙ digits-stop enoughDigits l rest (omega arith) (w .all) n
 
 -- ---- a token in a text
 none-not-ends : {v : ℤ} {i : ℕ} → _≡_ {A = Numeral} None (Ends v i) → ⊥

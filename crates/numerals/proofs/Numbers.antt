@@ -20,7 +20,7 @@ use lib.ListN.{length, getD}
 use Rattle.arithmetic.specs.Choice.{if_then_else_}
 use Rattle.arithmetic.proofs.Choice.{chosen}
 use Rattle.arithmetic.proofs.Crossing.{back, back-is, mag-le}
-use Rattle.numerals.specs.Number.{minus, isWhole, value, allDigits, numberOf}
+use Rattle.numerals.specs.Number.{minus, mostDigits, isWhole, value, allDigits, numberOf}
 use Rattle.numerals.specs.Private.Sign.{withSign, saidBy}
 use Rattle.numerals.specs.declared.reading.Number.{Number}
 use Rattle.numerals.specs.declared.reading.Number.the-variants.{Is, Not}
@@ -80,16 +80,16 @@ size-is false n = refl
 size-is true zero = refl
 size-is true (suc n) = refl
 
-pub said-lt : (sign : Bool) (l : List ℕ) {v : ℤ} → saidBy sign l ≡ Is v → natAbs v < 1_000_000_000
+pub said-lt : (sign : Bool) (l : List ℕ) {v : ℤ} → saidBy sign l ≡ Is v → natAbs v < 10 ^ mostDigits
 said-lt sign l e =
     let t = said-parts sign l e in
-    let nine : 10 ^ length l ≤ 10 ^ 9 = pow-le-pow-right (lit< tt) (t .0 .few) in
+    let nine : 10 ^ length l ≤ 10 ^ mostDigits = pow-le-pow-right (lit< tt) (t .0 .few) in
     rw (← t .1, size-is sign (value l)) (lt-of-lt-of-le (value-lt l (t .0 .all)) nine)
 
-pub number-lt : (t : List ℕ) {v : ℤ} → numberOf t ≡ Is v → natAbs v < 1_000_000_000
+pub number-lt : (t : List ℕ) {v : ℤ} → numberOf t ≡ Is v → natAbs v < 10 ^ mostDigits
 number-lt t e = go (sign-of t) e
   where
-    go : {t : List ℕ} → Signed t → {v : ℤ} → numberOf t ≡ Is v → natAbs v < 1_000_000_000
+    go : {t : List ℕ} → Signed t → {v : ℤ} → numberOf t ≡ Is v → natAbs v < 10 ^ mostDigits
     go (after-minus l) e = said-lt true l (sym (number-of-minus l) ∙ e)
     go (plain {l} h) e = said-lt false l (sym (number-of-plain l h) ∙ e)
 

@@ -11,20 +11,20 @@ use mathlib.Core.Path.{_≡_, sym, ap, _∙_}
 use native.Mathlib.Omega.{arith}
 use lib.IntN.{ℤ, pos, negsuc, negℤ, natAbs}
 use lib.ListN.{length, drop, getD}
-use Rattle.numerals.specs.Number.{minus, isDigit, isWhole, value, numberOf}
+use Rattle.numerals.specs.Number.{minus, isDigit, mostDigits, isWhole, value, numberOf}
 use Rattle.numerals.specs.Printed.{decimal, printed}
 use Rattle.numerals.specs.declared.reading.Number.the-variants.{Is}
 use Rattle.numerals.proofs.Wholes.{is-whole, first-not-minus, every-digit}
 use Rattle.numerals.proofs.Decimal.{all-of-decimal, value-of-decimal, some-of-decimal, leading-zero-of-decimal, length-of-decimal}
 use Rattle.numerals.proofs.Numbers.{number-of-minus, number-of-plain, said-is}
 
-pub whole-of-decimal : (n : ℕ) → n < 1_000_000_000 → isWhole (decimal n) ≡ true
+pub whole-of-decimal : (n : ℕ) → n < 10 ^ mostDigits → isWhole (decimal n) ≡ true
 whole-of-decimal n h =
     is-whole (decimal n)
     (record {
       all = all-of-decimal n;
       some = some-of-decimal n;
-      few = length-of-decimal n 9 (omega arith) h;
+      few = length-of-decimal n mostDigits (omega arith) h;
       first = leading-zero-of-decimal n;
     })
 
@@ -32,7 +32,7 @@ whole-of-decimal n h =
 plain-decimal : (n : ℕ) → getD (decimal n) 0 0 ≡ minus → ⊥
 plain-decimal n = first-not-minus (decimal n) (all-of-decimal n)
 
-pub number-of-printed : (v : ℤ) → natAbs v < 1_000_000_000 → numberOf (printed v) ≡ Is v
+pub number-of-printed : (v : ℤ) → natAbs v < 10 ^ mostDigits → numberOf (printed v) ≡ Is v
 unfolding printed
 number-of-printed (pos n) h =
     number-of-plain (decimal n) (plain-decimal n) ∙ said-is false (decimal n) (whole-of-decimal n h) (λ t z. false≢true t) ∙ ap (λ k. Is (pos k)) (value-of-decimal n)

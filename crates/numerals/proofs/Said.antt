@@ -20,7 +20,7 @@ use Rattle.arithmetic.specs.Signed.{nearest}
 use Rattle.arithmetic.proofs.Crossing.{back, mag-le, nearest-back, nearest-of-small}
 use Rattle.arithmetic.proofs.Parts.{drop-step}
 use Rattle.numerals.specs.Number.{minus, isWhole, value, numberOf}
-use Rattle.numerals.specs.Front.{front, endsAt, numeralAt}
+use Rattle.numerals.specs.Front.{enoughDigits, front, endsAt, numeralAt}
 use Rattle.numerals.specs.Private.Sign.{withSign, saidBy, digitsFrom, saidFrom, DigitsFrom}
 use Rattle.numerals.specs.declared.reading.Digits.{Digits}
 use Rattle.numerals.specs.declared.reading.Number.the-variants.{Is, Not}
@@ -33,7 +33,7 @@ module _ {text : List ℕ} {from : ℕ} {r : Digits} (d : DigitsFrom text from r
   pub part-is : take (r .stop - from) (drop from text) ≡ digitsFrom text from
   part-is =
       let count : r .stop - from ≡ length (digitsFrom text from) = omega (arith, d .stop-is) in
-      rw count (sym (digits-prefix 10 (drop from text)))
+      rw count (sym (digits-prefix enoughDigits (drop from text)))
 
   not-said : (sign : Bool) → saidBy sign (digitsFrom text from) ≡ Not → None ≡ saidFrom text from sign
   unfolding saidFrom endsAt
@@ -82,7 +82,7 @@ module _ (text : List ℕ) (at : ℕ) where
   numeral-plain h =
       let first : getD (drop at text) 0 0 ≡ getD text at 0 = getD-drop at text 0 0 ∙ ap (λ k. getD text k 0) (add-zero at) in
       let digits = digitsFrom text at in
-      rw (front-of-plain (drop at text) (λ z. h (sym first ∙ z)), number-of-plain digits (first-not-minus digits (all-of-digits 10 (drop at text))))
+      rw (front-of-plain (drop at text) (λ z. h (sym first ∙ z)), number-of-plain digits (first-not-minus digits (all-of-digits enoughDigits (drop at text))))
 
   pub numeral-within : at < length text → numeralAt text at ≡ saidFrom text (at + boolByte (eqb (getD text at 0) minus)) (eqb (getD text at 0) minus)
   numeral-within h = told (eqb (getD text at 0) minus) refl

@@ -15,8 +15,8 @@ use native.Mathlib.Omega.{arith}
 use lib.Dec.{lit<}
 use lib.ListN.{length, drop, getD, length-drop, drop-of-length-le}
 use Rattle.arithmetic.proofs.Parts.{drop-step}
-use Rattle.numerals.specs.Number.{zeroDigit, isDigit, valueFrom, value}
-use Rattle.numerals.specs.Front.{digitsOf}
+use Rattle.numerals.specs.Number.{zeroDigit, isDigit, valueFrom, value, mostDigits}
+use Rattle.numerals.specs.Front.{digitsOf, enoughDigits}
 use Rattle.numerals.specs.Private.Sign.{digitsFrom, DigitsFrom}
 use Rattle.arithmetic.proofs.Tests.{less-or-not}
 use Rattle.numerals.proofs.Wholes.{digit-range}
@@ -25,11 +25,11 @@ use Rattle.numerals.proofs.Fronts.{ended, other, digits-more, digits-no
 module _ (text : List ℕ) (from : ℕ) where
   -- the digits still to come from a place on
   abbrev pub toCome : ℕ → List ℕ
-  toCome stop = digitsOf (from + 10 - stop) (drop stop text)
+  toCome stop = digitsOf (from + enoughDigits - stop) (drop stop text)
 
   pub record Taken (n stop : ℕ) : Type 0 where
     pub past : from ≤ stop
-    pub few : stop ≤ from + 10
+    pub few : stop ≤ from + enoughDigits
     pub small : n < 10 ^ (stop - from)
     pub value-goes-on : valueFrom n (toCome stop) ≡ value (digitsFrom text from)
     pub stop-goes-on : stop + length (toCome stop) ≡ from + length (digitsFrom text from)
@@ -37,7 +37,7 @@ module _ (text : List ℕ) (from : ℕ) where
   pub taken-none : Taken 0 from
   taken-none =
       let none : from - from ≡ 0 = omega arith in
-      let ten : from + 10 - from ≡ 10 = omega arith in
+      let ten : from + enoughDigits - from ≡ enoughDigits = omega arith in
       let all : toCome from ≡ digitsFrom text from = ap (λ k. digitsOf k (drop from text)) ten in
       record {
         past = omega arith;
@@ -47,17 +47,17 @@ module _ (text : List ℕ) (from : ℕ) where
         stop-goes-on = ap (λ l. from + length l) all;
       }
 
-  pub taken-small : {n stop : ℕ} → Taken n stop → stop < from + 10 → n < 1_000_000_000
+  pub taken-small : {n stop : ℕ} → Taken n stop → stop < from + enoughDigits → n < 10 ^ mostDigits
   taken-small {n} {stop} t h =
-      let nine : stop - from ≤ 9 = omega arith in
-      let bound : 10 ^ (stop - from) ≤ 10 ^ 9 = pow-le-pow-right (lit< tt) nine in
+      let nine : stop - from ≤ mostDigits = omega arith in
+      let bound : 10 ^ (stop - from) ≤ 10 ^ mostDigits = pow-le-pow-right (lit< tt) nine in
       omega (arith, t .small)
 
   -- the next byte, where it is a digit
-  module _ {stop : ℕ} (h : stop < length text) (room : stop < from + 10) (e : isDigit (getD text stop 0) ≡ true) where
+  module _ {stop : ℕ} (h : stop < length text) (room : stop < from + enoughDigits) (e : isDigit (getD text stop 0) ≡ true) where
     next : toCome stop ≡ getD text stop 0 ∷ toCome (stop + 1)
     next =
-        let one : from + 10 - stop ≡ suc (from + 10 - (stop + 1)) = omega arith in
+        let one : from + enoughDigits - stop ≡ suc (from + enoughDigits - (stop + 1)) = omega arith in
         rw (one, drop-step text stop 0 h) (digits-more _ _ _ e)
 
     pub taken-more : {n : ℕ} → Taken n stop → Taken (n * 10 + (getD text stop 0 - zeroDigit)) (stop + 1)
@@ -79,15 +79,15 @@ module _ (text : List ℕ) (from : ℕ) where
       record {
         value-is = sym (ap (valueFrom n) e) ∙ t .value-goes-on;
         stop-is = stop-is;
-        within = omega (arith, length-of-digits 10 (drop from text), length-drop from text);
+        within = omega (arith, length-of-digits enoughDigits (drop from text), length-drop from text);
       }
 
   pub other-to-come : (stop : ℕ) → stop < length text → isDigit (getD text stop 0) ≡ false → toCome stop ≡ []
   other-to-come stop h e = rw (drop-step text stop 0 h) (digits-none _ (other e))
 
-  pub past-end : (stop : ℕ) → min (length text) (from + 10) ≤ stop → toCome stop ≡ []
+  pub past-end : (stop : ℕ) → min (length text) (from + enoughDigits) ≤ stop → toCome stop ≡ []
   past-end stop h =
       ⊎-elim
-      (λ within. let none : from + 10 - stop ≡ 0 = omega arith in rw none (digits-at-zero _))
+      (λ within. let none : from + enoughDigits - stop ≡ 0 = omega arith in rw none (digits-at-zero _))
       (λ past. rw (drop-of-length-le text {i = stop} past) (digits-none _ ended))
       (less-or-not stop (length text))

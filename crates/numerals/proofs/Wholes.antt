@@ -18,7 +18,7 @@ use native.Mathlib.Omega.{arith}
 use borrow.Author.Tests.{le-leb, lt-leb, leb-true, lt-ltb, not-true}
 use lib.Dec.{leb, ltb, eqb}
 use lib.ListN.{length, getD}
-use Rattle.numerals.specs.Number.{minus, zeroDigit, isDigit, allDigits, valueFrom, value, leadingZero, isWhole}
+use Rattle.numerals.specs.Number.{minus, zeroDigit, isDigit, allDigits, valueFrom, value, leadingZero, mostDigits, isWhole}
 use Rattle.arithmetic.proofs.Tests.{both}
 
 pub digit-range : (b : ℕ) → isDigit b ≡ true → (zeroDigit ≤ b) × (b ≤ zeroDigit + 9)
@@ -87,7 +87,7 @@ leading-zero-is (b ∷ c ∷ l) = let more : 1 < suc (suc (length l)) = omega ar
 pub record Whole (l : List ℕ) : Type 0 where
   pub all : allDigits l ≡ true
   pub some : 1 ≤ length l
-  pub few : length l ≤ 9
+  pub few : length l ≤ mostDigits
   pub first : leadingZero l ≡ false
 
 pub is-whole : (l : List ℕ) → Whole l → isWhole l ≡ true
@@ -98,13 +98,13 @@ pub whole-is : (l : List ℕ) → isWhole l ≡ true → Whole l
 unfolding isWhole
 whole-is l e =
     let t = both _ (not (leadingZero l)) e in
-    let u = both _ (leb (length l) 9) (t .0) in
+    let u = both _ (leb (length l) mostDigits) (t .0) in
     let v = both (allDigits l) (leb 1 (length l)) (u .0) in
     record { all = v .0; some = leb-true _ _ (v .1); few = leb-true _ _ (u .1); first = not-true _ (t .1) }
 
 -- ---- digits are whole by their count, and where there are several by the first
 module _ (l : List ℕ) (e : allDigits l ≡ true) where
-  whole-by : isWhole l ≡ (leb 1 (length l) && leb (length l) 9 && not (ltb 1 (length l) && eqb (getD l 0 0) zeroDigit))
+  whole-by : isWhole l ≡ (leb 1 (length l) && leb (length l) mostDigits && not (ltb 1 (length l) && eqb (getD l 0 0) zeroDigit))
   unfolding isWhole
   whole-by = rw (e, leading-zero-is)
 
@@ -114,9 +114,9 @@ module _ (l : List ℕ) (e : allDigits l ≡ true) where
   pub whole-of-one : length l ≡ 1 → isWhole l ≡ true
   whole-of-one h = rw (whole-by, h)
 
-  pub whole-of-several : 1 < length l → length l ≤ 9 → isWhole l ≡ not (eqb (getD l 0 0) zeroDigit)
+  pub whole-of-several : 1 < length l → length l ≤ mostDigits → isWhole l ≡ not (eqb (getD l 0 0) zeroDigit)
   whole-of-several h k =
       let some : 1 ≤ length l = omega arith in rw (whole-by, le-leb _ _ some, le-leb _ _ k, lt-ltb _ _ h)
 
-  pub whole-of-many : 9 < length l → isWhole l ≡ false
+  pub whole-of-many : mostDigits < length l → isWhole l ≡ false
   whole-of-many h = let some : 1 ≤ length l = omega arith in rw (whole-by, le-leb _ _ some, lt-leb _ _ h)

@@ -5,7 +5,7 @@ use mathlib.Core.List.{List, [], _∷_}
 use lib.Dec.{eqb}
 use lib.ListN.{length, drop}
 use Rattle.arithmetic.specs.Choice.{if_then_else_}
-use Rattle.numerals.specs.Number.{minus, isDigit, numberOf}
+use Rattle.numerals.specs.Number.{minus, isDigit, mostDigits, numberOf}
 use Rattle.numerals.specs.declared.reading.Number.{Number}
 use Rattle.numerals.specs.declared.reading.Number.the-variants.{Is, Not}
 use Rattle.numerals.specs.declared.reading.Numeral.{Numeral}
@@ -17,9 +17,13 @@ digitsOf zero text = []
 digitsOf (suc most) [] = []
 digitsOf (suc most) (b ∷ rest) = if isDigit b then b ∷ digitsOf most rest else []
 
+-- so many are too many already
+abbrev pub enoughDigits : ℕ
+enoughDigits = mostDigits + 1
+
 unfoldable pub front : List ℕ → List ℕ
 front [] = []
-front (b ∷ rest) = if eqb b minus then b ∷ digitsOf 10 rest else digitsOf 10 (b ∷ rest)
+front (b ∷ rest) = if eqb b minus then b ∷ digitsOf enoughDigits rest else digitsOf enoughDigits (b ∷ rest)
 
 -- the number that a front says, and the place after it where it starts at place `at`
 unfoldable pub endsAt : ℕ → Number → Numeral

@@ -38,9 +38,13 @@ leadingZero [] = false
 leadingZero (b ∷ []) = false
 leadingZero (b ∷ c ∷ rest) = eqb b zeroDigit
 
+-- "1 to 9 digits"
+abbrev pub mostDigits : ℕ
+mostDigits = 9
+
 -- "1 to 9 digits, no leading zero"
 unfoldable pub isWhole : List ℕ → Bool
-isWhole digits = allDigits digits && leb 1 (length digits) && leb (length digits) 9 && not (leadingZero digits)
+isWhole digits = allDigits digits && leb 1 (length digits) && leb (length digits) mostDigits && not (leadingZero digits)
 
 -- "an optional minus", "no minus zero"
 unfoldable pub numberOf : List ℕ → Number

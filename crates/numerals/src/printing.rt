@@ -7,7 +7,7 @@ ghost use Rattle.numerals.specs.Printed.{Prints};
 ghost use Rattle.numerals.specs.Private.Sign.{withSign};
 
 // The largest u64 has twenty digits.
-const MOST_DIGITS: usize = 20;
+const MOST_PRINTED_DIGITS: usize = 20;
 
 // Puts v's text at the front of the room, where it fits, and answers the text's length.
 pub fn print(v: i64, room: &mut [u8]) -> usize
@@ -28,7 +28,7 @@ fn print_signed(minus: bool, n: u64, room: &mut [u8]) -> usize
     requires { ⌜ (minus ≡ true → 0 < n) ⌝ }
     ensures { λ r. ⌜ Prints (withSign minus n) (now (room .entry)) (now (room .exit)) r ⌝ }
 {
-    let mut digits = [0u8; MOST_DIGITS];
+    let mut digits = [0u8; MOST_PRINTED_DIGITS];
     let count = io::decimal(n, &mut digits);
     let start = minus as usize;
     let length = start + count;

@@ -29,6 +29,8 @@ struct Digits {
 // A number has nine digits at the most; one more is taken, and is too many.
 const MOST_DIGITS: usize = 9;
 
+const ENOUGH_DIGITS: usize = MOST_DIGITS + 1;
+
 // What a token says.
 pub fn read_number(token: &[u8]) -> Number
     ensures { λ r. ⌜ r ≡ numberOf (now (token .entry)) ⌝ }
@@ -85,7 +87,7 @@ fn digits_from(text: &[u8], from: usize) -> Digits
     requires { ⌜ from ≤ length (now text) ⌝ }
     ensures { λ r. ⌜ DigitsFrom (now (text .entry)) from r ⌝ }
 {
-    let end = least(text.len(), from + MOST_DIGITS + 1);
+    let end = least(text.len(), from + ENOUGH_DIGITS);
     let mut value: u64 = 0;
     let mut stop = from;
     while stop < end {

@@ -8,7 +8,7 @@ use lib.IntN.{ℤ, pos, negℤ}
 use lib.ListN.{length, drop}
 use Rattle.arithmetic.specs.Choice.{if_then_else_}
 use Rattle.numerals.specs.Number.{isWhole, value}
-use Rattle.numerals.specs.Front.{digitsOf, endsAt}
+use Rattle.numerals.specs.Front.{digitsOf, enoughDigits, endsAt}
 use Rattle.numerals.specs.declared.reading.Digits.{Digits}
 use Rattle.numerals.specs.declared.reading.Number.{Number}
 use Rattle.numerals.specs.declared.reading.Number.the-variants.{Is, Not}
@@ -26,13 +26,17 @@ saidBy minus digits =
 
 -- the digits of a text from a place on, ten at the most
 abbrev pub digitsFrom : List ℕ → ℕ → List ℕ
-digitsFrom text from = digitsOf 10 (drop from text)
+digitsFrom text from = digitsOf enoughDigits (drop from text)
 
 -- what they say, and the place after them
 unfoldable pub saidFrom : List ℕ → ℕ → Bool → Numeral
 saidFrom text from minus = endsAt (from + length (digitsFrom text from)) (saidBy minus (digitsFrom text from))
 
--- their value, and the place after them
+-- the digits of the largest number that 64 bits hold
+abbrev pub mostPrintedDigits : ℕ
+mostPrintedDigits = 20
+
+-- the value of the digits from a place on, and the place after them
 pub record DigitsFrom (text : List ℕ) (from : ℕ) (r : Digits) : Type 0 where
   pub value-is : r .value ≡ value (digitsFrom text from)
   pub stop-is : r .stop ≡ from + length (digitsFrom text from)

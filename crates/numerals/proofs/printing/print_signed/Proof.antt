@@ -8,6 +8,7 @@ use lib.ListN.{length, length-set}
 use mir.Val.{boolByte}
 use Rattle.arithmetic.proofs.Room.{length-laid}
 use Rattle.arithmetic.proofs.Tests.{flag-le}
+use Rattle.numerals.specs.Private.Sign.{mostPrintedDigits}
 use Rattle.numerals.proofs.Decimal.{some-of-decimal, length-of-decimal}
 use Rattle.numerals.proofs.Prints.{Spelled, spelled, prints-short, digits-fit, prints-fits}
 use Rattle.numerals.proofs.printing.print_signed.Statement.{statement}
@@ -31,7 +32,7 @@ cast-start c = search needs
 add-length : tie.Need-add-length
 add-length c =
     let args = c .before .before .before .args in
-    let twenty = length-of-decimal (args .n) 20 (omega arith) (omega arith) in
+    let twenty = length-of-decimal (args .n) mostPrintedDigits (omega arith) (omega arith) in
     omega (arith, written c .count-is, flag-le (args .minus))
 
 returns : tie.Need-returns

@@ -1,5 +1,5 @@
 -- What was taken, with the digits still to come, is the whole; a digit more fits, since there are ten at the most. Assumes nothing.
-use Prim.Native.Nat.{_+_, _-_, _<_, min}
+use Prim.Native.Nat.{_+_, _-_, _^_, _<_, min}
 use mathlib.Core.Bool.{true}
 use mathlib.Core.Path.{_≡_, sym, _∙_}
 use native.Mathlib.Omega.{arith}
@@ -7,14 +7,15 @@ use borrow.Author.Needs.{needs}
 use borrow.Author.Tests.{not-true, not-false}
 use denote.Ref.{now}
 use lib.ListN.{length, getD}
-use Rattle.numerals.specs.Number.{isDigit}
+use Rattle.numerals.specs.Number.{isDigit, mostDigits}
+use Rattle.numerals.specs.Front.{enoughDigits}
 use Rattle.numerals.proofs.Wholes.{digit-range}
 use Rattle.numerals.proofs.Taken.{Taken, taken-none, taken-more, taken-small, taken-all, other-to-come, past-end}
 use Rattle.numerals.proofs.reading.digits_from.Statement.{statement}
 use Rattle.numerals.proofs.reading.digits_from.Tie as tie
 
 abbrev Inv-loop : tie.InvT-loop
-Inv-loop text from end value₀ stop₀ value stop = (end ≡ min (length text) (from + 9 + 1)) × Taken text from value stop
+Inv-loop text from end value₀ stop₀ value stop = (end ≡ min (length text) (from + enoughDigits)) × Taken text from value stop
 
 abbrev μ-loop : tie.MeasureT-loop
 μ-loop text from end value₀ stop₀ value stop = end - stop
@@ -23,14 +24,11 @@ abbrev μ-loop : tie.MeasureT-loop
 digit : (c : tie.Else1 Inv-loop μ-loop) → isDigit (getD (now (c .before .before .before .before .before .before .before .args .text)) (c .before .before .before .before .loop .stop) 0) ≡ true
 digit c = sym (c .before .is-digit .ensures) ∙ not-false _ (c .if1 .left)
 
-small : (c : tie.Else1 Inv-loop μ-loop) → c .before .before .before .before .loop .value < 1_000_000_000
+small : (c : tie.Else1 Inv-loop μ-loop) → c .before .before .before .before .loop .value < 10 ^ mostDigits
 small c = taken-small _ _ (c .before .before .before .before .loop .inv .1) (omega arith)
 
 add-least : tie.Need-add-least Inv-loop μ-loop
 add-least c = omega arith
-
-add-least-2 : tie.Need-add-least-2 Inv-loop μ-loop
-add-least-2 c = omega arith
 
 least-requires : tie.Need-least-requires Inv-loop μ-loop
 least-requires c κs = search needs
@@ -82,7 +80,6 @@ digits-from-spec =
     Inv-loop
     μ-loop
     add-least
-    add-least-2
     least-requires
     loop-holds
     shared-slice-read-b

@@ -4,6 +4,7 @@ use mathlib.Core.Path.{sym, _∙_}
 use native.Mathlib.Omega.{arith}
 use borrow.Author.Needs.{needs}
 use borrow.Author.Tests.{not-true, not-false}
+use Rattle.numerals.specs.Front.{enoughDigits}
 use Rattle.numerals.proofs.Fronts.{all-of-digits}
 use Rattle.numerals.proofs.Said.{part-is, said-from-is, said-from-not, said-from-zero}
 use Rattle.numerals.proofs.reading.said_from.Statement.{statement}
@@ -22,7 +23,7 @@ part-is-whole-end : tie.Need-part-is-whole-end
 part-is-whole-end c = search needs
 
 is-whole-requires : tie.Need-is-whole-requires
-is-whole-requires c κs = rw (part-is (c .before .digits-from .ensures)) (all-of-digits 10 _)
+is-whole-requires c κs = rw (part-is (c .before .digits-from .ensures)) (all-of-digits enoughDigits _)
 
 returns : tie.Need-returns
 returns c =
