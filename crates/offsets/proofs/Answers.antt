@@ -4,27 +4,26 @@
 --     file-refused                                        a refusal of the file
 --     sheet                                               a whole file, copied into the tables
 -- Assumes nothing.
-use mathlib.Core.Path.{_≡_, refl, sym, ap, ap₂, _∙_}
+use mathlib.Core.Path.{_≡_, _∙_}
 use mathlib.Core.List.{List, _++_, map}
 use Prim.Native.Nat.{ℕ, _*_, _/_, _≤_, _<_}
 use native.Mathlib.Nat.{mul-div-cancel-left}
 use native.Mathlib.Omega.{arith}
 use borrow.Author.Tests.{lt-ltb, le-ltb}
-use lib.Dec.{ltb}
 use lib.IntN.{ℤ, pos, natAbs}
-use lib.ListN.{length, take, drop, getD, length-map}
+use lib.ListN.{length, take, drop, length-map}
 use lib.Seq.{getD-take, length-take-le}
 use Rattle.arithmetic.proofs.Choice.{chosen}
-use Rattle.ranges.specs.Outcome.{Outcome, answered, refused}
+use Rattle.ranges.specs.Fields.{particulars}
+use Rattle.ranges.specs.Outcome.{answered, refused}
 use Rattle.ranges.specs.Outside.{particularsOf}
-use Rattle.ranges.specs.Refusals.{fileTooLong, wrongSize}
-use Rattle.ranges.specs.Sizes.{longestFile, roomForHalfBreadths, roomForItems, roomForTanks}
+use Rattle.ranges.specs.Refusals.{fileTooLong, wrongSize, halfBreadthTable, itemTable, tankTable}
+use Rattle.ranges.specs.Sizes.{longestFile, itemWidth, tankWidth, roomForHalfBreadths, roomForItems, roomForTanks}
 use Rattle.ranges.specs.declared.Refusal.{Refusal}
 use Rattle.offsets.specs.File.{Contents, file}
-use Rattle.offsets.specs.Reader.{readerOf, summaryOf, summarised, paper, filled, Reads}
-use Rattle.offsets.specs.Private.Steps.{Sized, Rooms, Parses, onParsed}
+use Rattle.offsets.specs.Reader.{readerOf, summarised, filled, Reads}
+use Rattle.offsets.specs.Private.Steps.{Sized, Rooms, Parses, hullIn, onParsed}
 use Rattle.offsets.specs.Tokens.{tokens}
-use Rattle.offsets.specs.declared.Read.{Read}
 use Rattle.offsets.specs.declared.Read.the-variants.{Sheet, Refused}
 use Rattle.offsets.specs.declared.reader.Parsed.{Parsed}
 use Rattle.offsets.specs.declared.reader.Parsed.the-variants as P
@@ -34,16 +33,16 @@ module _ (text h₀ : List ℕ) (i₀ t₀ : List ℤ) where
   unfolding summarised filled
   refusal number place e = record { answer-is = rw e; tables-are = record { half-breadths-left = rw e; items-left = rw e; tanks-left = rw e } }
 
-  pub half-short : length h₀ < roomForHalfBreadths → Reads text h₀ h₀ i₀ i₀ t₀ t₀ (Refused (record { number = wrongSize; place = 0 }))
-  half-short h = refusal wrongSize 0 (unfold readerOf in simp (lt-ltb (length h₀) roomForHalfBreadths h, chosen))
+  pub half-short : length h₀ < roomForHalfBreadths → Reads text h₀ h₀ i₀ i₀ t₀ t₀ (Refused (record { number = wrongSize; place = halfBreadthTable }))
+  half-short h = refusal wrongSize halfBreadthTable (unfold readerOf in simp (lt-ltb (length h₀) roomForHalfBreadths h, chosen))
 
   module _ (half : roomForHalfBreadths ≤ length h₀) where
-    pub items-short : length i₀ < roomForItems → Reads text h₀ h₀ i₀ i₀ t₀ t₀ (Refused (record { number = wrongSize; place = 1 }))
-    items-short h = refusal wrongSize 1 (unfold readerOf in simp (le-ltb (length h₀) roomForHalfBreadths half, lt-ltb (length i₀) roomForItems h, chosen))
+    pub items-short : length i₀ < roomForItems → Reads text h₀ h₀ i₀ i₀ t₀ t₀ (Refused (record { number = wrongSize; place = itemTable }))
+    items-short h = refusal wrongSize itemTable (unfold readerOf in simp (le-ltb (length h₀) roomForHalfBreadths half, lt-ltb (length i₀) roomForItems h, chosen))
 
     module _ (items : roomForItems ≤ length i₀) where
-      pub tanks-short : length t₀ < roomForTanks → Reads text h₀ h₀ i₀ i₀ t₀ t₀ (Refused (record { number = wrongSize; place = 2 }))
-      tanks-short h = refusal wrongSize 2 (unfold readerOf in simp (le-ltb (length h₀) roomForHalfBreadths half, le-ltb (length i₀) roomForItems items, lt-ltb (length t₀) roomForTanks h, chosen))
+      pub tanks-short : length t₀ < roomForTanks → Reads text h₀ h₀ i₀ i₀ t₀ t₀ (Refused (record { number = wrongSize; place = tankTable }))
+      tanks-short h = refusal wrongSize tankTable (unfold readerOf in simp (le-ltb (length h₀) roomForHalfBreadths half, le-ltb (length i₀) roomForItems items, lt-ltb (length t₀) roomForTanks h, chosen))
 
       pub too-long : roomForTanks ≤ length t₀ → longestFile < length text → Reads text h₀ h₀ i₀ i₀ t₀ t₀ (Refused (record { number = fileTooLong; place = longestFile }))
       too-long tanks h = refusal fileTooLong longestFile (unfold readerOf in simp (le-ltb (length h₀) roomForHalfBreadths half, le-ltb (length i₀) roomForItems items, le-ltb (length t₀) roomForTanks tanks, lt-ltb longestFile (length text) h, chosen))
@@ -66,12 +65,12 @@ module _ (text h₀ : List ℕ) (i₀ t₀ : List ℤ) where
       front : {A : Type 0} (n : ℕ) (read was after : List A) → length read ≡ n → after ≡ read ++ drop n was → after ≡ read ++ drop (length read) was
       front n read was after l e = rw l e
 
-      same-hull : particularsOf (take 5 hull) ≡ particularsOf hull
-      same-hull = rw (getD-take 5 hull 0 (pos 0) (omega arith), getD-take 5 hull 1 (pos 0) (omega arith), getD-take 5 hull 2 (pos 0) (omega arith), getD-take 5 hull 3 (pos 0) (omega arith), getD-take 5 hull 4 (pos 0) (omega arith))
+      same-hull : particularsOf (hullIn hull) ≡ particularsOf hull
+      same-hull = rw (getD-take (length particulars) hull 0 (pos 0) (omega arith), getD-take (length particulars) hull 1 (pos 0) (omega arith), getD-take (length particulars) hull 2 (pos 0) (omega arith), getD-take (length particulars) hull 3 (pos 0) (omega arith), getD-take (length particulars) hull 4 (pos 0) (omega arith))
 
       module _ (p i t : ℕ) (whole : r ≡ P.Whole p i t) (rooms : Rooms hull half items tanks) (h : List ℕ) (j k : List ℤ) where
         contents : Contents
-        contents = record { hull = take 5 hull; halfBreadths = take p half; items = take (4 * i) items; tanks = take (8 * t) tanks }
+        contents = record { hull = hullIn hull; halfBreadths = take p half; items = take (itemWidth * i) items; tanks = take (tankWidth * t) tanks }
 
         read-is : readerOf text (length h₀) (length i₀) (length t₀) ≡ answered contents
         unfolding onParsed contents
@@ -79,20 +78,20 @@ module _ (text h₀ : List ℕ) (i₀ t₀ : List ℤ) where
 
         pub sheet :
             h ≡ map natAbs (take p half) ++ drop p h₀
-            → j ≡ take (4 * i) items ++ drop (4 * i) i₀
-            → k ≡ take (8 * t) tanks ++ drop (8 * t) t₀
+            → j ≡ take (itemWidth * i) items ++ drop (itemWidth * i) i₀
+            → k ≡ take (tankWidth * t) tanks ++ drop (tankWidth * t) t₀
             → Reads text h₀ h i₀ j t₀ k (Sheet (record { particulars = particularsOf hull; items = i; tanks = t }))
         unfolding summarised filled contents
         sheet a b c =
             let fits = rw whole at (parses .fits) in
             let lp : p ≤ length half = omega arith in
-            let li : 4 * i ≤ length items = omega arith in
-            let lt : 8 * t ≤ length tanks = omega arith in
+            let li : itemWidth * i ≤ length items = omega arith in
+            let lt : tankWidth * t ≤ length tanks = omega arith in
             record {
-              answer-is = rw (read-is, same-hull, counted i 4 items (omega arith) li, counted t 8 tanks (omega arith) lt);
+              answer-is = rw (read-is, same-hull, counted i itemWidth items (omega arith) li, counted t tankWidth tanks (omega arith) lt);
               tables-are = record {
                 half-breadths-left = rw read-is (front p (map natAbs (take p half)) h₀ h (length-map (take p half) natAbs ∙ length-take-le p half lp) a);
-                items-left = rw read-is (front (4 * i) (take (4 * i) items) i₀ j (length-take-le (4 * i) items li) b);
-                tanks-left = rw read-is (front (8 * t) (take (8 * t) tanks) t₀ k (length-take-le (8 * t) tanks lt) c);
+                items-left = rw read-is (front (itemWidth * i) (take (itemWidth * i) items) i₀ j (length-take-le (itemWidth * i) items li) b);
+                tanks-left = rw read-is (front (tankWidth * t) (take (tankWidth * t) tanks) t₀ k (length-take-le (tankWidth * t) tanks lt) c);
               };
             }

@@ -14,7 +14,7 @@ use lib.Seq.{take-at}
 use Rattle.ranges.specs.Fields.{item, tank}
 use Rattle.ranges.specs.Outcome.{Outcome, answered, refused}
 use Rattle.ranges.specs.Outside.{particularsOf}
-use Rattle.ranges.specs.Sizes.{longestFile, pointsOf, roomForHalfBreadths, roomForItems, roomForTanks}
+use Rattle.ranges.specs.Sizes.{longestFile, pointsOf, itemWidth, tankWidth, roomForHalfBreadths, roomForItems, roomForTanks}
 use Rattle.ranges.specs.declared.Particulars.{Particulars}
 use Rattle.ranges.proofs.Outcomes.{refused-not, not-refused}
 use Rattle.offsets.specs.Back.{RoomForAnyFile, ReadBack, summaryWith}
@@ -82,10 +82,10 @@ abbrev pub halfBreadthsRead : Summary → List ℕ → List ℕ
 halfBreadthsRead summary = take (pointsOf (summary .particulars .n) (summary .particulars .m))
 
 abbrev pub itemsRead : Summary → List ℤ → List ℤ
-itemsRead summary = take (length item * summary .items)
+itemsRead summary = take (itemWidth * summary .items)
 
 abbrev pub tanksRead : Summary → List ℤ → List ℤ
-tanksRead summary = take (length tank * summary .tanks)
+tanksRead summary = take (tankWidth * summary .tanks)
 
 pub record WrittenAgain (summary : Summary) (h : List ℕ) (i t : List ℤ) (roomLeft : List ℕ) (answer : Written) : Type 0 where
   pub count : ℕ
@@ -142,8 +142,8 @@ contents-read {text} {h₀} {h'} {i₀} {i'} {t₀} {t'} r =
       summary-is = x .2;
       sound = s;
       half-breadths-are = front-of (map natAbs (c .halfBreadths)) h₀ h' _ (length-map (c .halfBreadths) natAbs ∙ length-of-half-breadths c s) (b .half-breadths-are);
-      items-are = front-of (c .items) i₀ i' (4 * recordsIn item (c .items)) (omega (arith, length-of-items c s)) (b .items-are);
-      tanks-are = front-of (c .tanks) t₀ t' (8 * recordsIn tank (c .tanks)) (omega (arith, length-of-tanks c s)) (b .tanks-are);
+      items-are = front-of (c .items) i₀ i' (itemWidth * recordsIn item (c .items)) (omega (arith, length-of-items c s)) (b .items-are);
+      tanks-are = front-of (c .tanks) t₀ t' (tankWidth * recordsIn tank (c .tanks)) (omega (arith, length-of-tanks c s)) (b .tanks-are);
     }
 
 pub read-then-write : {text h₀ h' : List ℕ} {i₀ i' t₀ t' : List ℤ} {summary : Summary} {room roomLeft : List ℕ} {answer : Written}

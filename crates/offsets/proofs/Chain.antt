@@ -3,30 +3,30 @@
 --     file-of-steps      their outcome is the file's
 -- Assumes nothing.
 use mathlib.Core.Path.{_≡_, refl, sym, ap, ap₂, _∙_, fun-ext}
-use mathlib.Core.Bool.{Bool, true, false}
-use mathlib.Core.List.{List, _∷_, _++_, append-assoc}
+use mathlib.Core.Bool.{true}
+use mathlib.Core.List.{List, _∷_, _++_}
 use Prim.Native.Nat.{ℕ, zero, suc, _+_, _*_, _%_, _≤_, _<_}
-use native.Mathlib.Nat.{mul-suc, mul-zero, mul-le-mul, mod-add-mod, mod-self, zero-mod, suc-add, zero-add, add-zero}
+use native.Mathlib.Nat.{mul-suc, mul-zero, mod-add-mod, mod-self, zero-mod, suc-add, zero-add, add-zero}
 use native.Mathlib.Omega.{arith}
 use lib.IntN.{ℤ, pos, natAbs}
-use lib.ListN.{length, take, drop, getD}
+use lib.ListN.{length, take, getD}
 use lib.Seq.{getD-take}
-use Rattle.arithmetic.specs.Choice.{if_then_else_}
 use Rattle.arithmetic.proofs.Choice.{chosen, if-either}
-use Rattle.ranges.specs.Fields.{Range, rangeOf, within, particulars, halfBreadth, item, tank}
+use Rattle.ranges.specs.Fields.{Range, least, most, rangeOf, within, particulars, halfBreadth, item, tank}
 use Rattle.ranges.specs.Outcome.{Outcome, answered, andThen}
-use Rattle.ranges.specs.Sizes.{pointsOf, mostItems, mostTanks, roomForHalfBreadths}
+use Rattle.ranges.specs.Sizes.{itemWidth, tankWidth, mostItems, mostTanks, roomForHalfBreadths}
 use Rattle.ranges.specs.declared.Refusal.{Refusal}
 use Rattle.ranges.proofs.Facts.{within-whole, within-positive}
 use Rattle.ranges.proofs.Outcomes.{refused-not, then-assoc}
 use Rattle.offsets.specs.File.{Contents, records, points, section, complete, file}
-use Rattle.offsets.specs.Reading.{one, count, numbers}
-use Rattle.offsets.specs.Private.Steps.{tokensAt, onStep, onNumbers, onEnd, countOf, rangesFrom, pointsIn, Counts, ReadsAfter, Finishes, onParsed, Fits, Parses}
-use Rattle.offsets.specs.Tokens.{Token, tokens, tokensFrom}
+use Rattle.offsets.specs.Reading.{count, numbers}
+use Rattle.offsets.specs.Private.Steps.{tokensAt, onStep, onNumbers, onEnd, countOf, halfBreadthField, itemField, tankField, rangesFrom, pointsIn, hullIn, Counts, ReadsAfter, Finishes, onParsed, Parses}
+use Rattle.offsets.specs.Tokens.{Token, tokens}
 use Rattle.offsets.specs.declared.reading.Step.{Step}
 use Rattle.offsets.specs.declared.reading.Step.the-variants as S
 use Rattle.offsets.specs.declared.reader.Parsed.the-variants as P
 use Rattle.offsets.proofs.InRanges.{in-ranges-length, in-ranges-at}
+use Rattle.offsets.proofs.Sound.{points-most}
 use Rattle.offsets.proofs.Within.{numbers-within}
 
 -- ---- the ranges of whole records
@@ -91,24 +91,24 @@ module _ (text : List ℕ) where
 
 -- ---- n and m of a hull that was read are in range
 module _ (len : ℕ) (hull : List ℤ) where
-  front-at : (i : ℕ) → i < 5 → getD (take 5 hull) i (pos 0) ≡ getD hull i (pos 0)
-  front-at i h = getD-take 5 hull i (pos 0) h
+  front-at : (i : ℕ) → i < length particulars → getD (hullIn hull) i (pos 0) ≡ getD hull i (pos 0)
+  front-at i h = getD-take (length particulars) hull i (pos 0) h
 
-  first-two : (ts rest : List Token) → numbers len particulars ts ≡ answered (take 5 hull, rest) → (within (rangeOf 0) (getD hull 0 (pos 0)) ≡ true) × (within (rangeOf 1) (getD hull 1 (pos 0)) ≡ true)
+  first-two : (ts rest : List Token) → numbers len particulars ts ≡ answered (hullIn hull, rest) → (within (rangeOf 0) (getD hull 0 (pos 0)) ≡ true) × (within (rangeOf 1) (getD hull 1 (pos 0)) ≡ true)
   first-two ts rest h =
       let r = numbers-within len particulars ts h in
       let five = in-ranges-length r in
       (rw (front-at 0 (omega arith)) at (in-ranges-at r 0 (omega arith)), rw (front-at 1 (omega arith)) at (in-ranges-at r 1 (omega arith)))
 
-  points-of-front : points (take 5 hull) ≡ points hull
+  points-of-front : points (hullIn hull) ≡ points hull
   points-of-front = rw (front-at 0 (omega arith), front-at 1 (omega arith))
 
-  sized : (ts rest : List Token) → numbers len particulars ts ≡ answered (take 5 hull, rest) → points (take 5 hull) ≡ pointsIn hull
+  sized : (ts rest : List Token) → numbers len particulars ts ≡ answered (hullIn hull, rest) → points (hullIn hull) ≡ pointsIn hull
   unfolding pointsIn
   sized ts rest h =
       let w = first-two ts rest h in
-      let n : within (rangeOf 0) (pos (natAbs (getD hull 0 (pos 0)))) ≡ true = rw (within-positive 2 40 (getD hull 0 (pos 0)) (w .0)) (w .0) in
-      let m : within (rangeOf 1) (pos (natAbs (getD hull 1 (pos 0)))) ≡ true = rw (within-positive 3 20 (getD hull 1 (pos 0)) (w .1)) (w .1) in
+      let n : within (rangeOf 0) (pos (natAbs (getD hull 0 (pos 0)))) ≡ true = rw (within-positive (least (rangeOf 0)) (most (rangeOf 0)) (getD hull 0 (pos 0)) (w .0)) (w .0) in
+      let m : within (rangeOf 1) (pos (natAbs (getD hull 1 (pos 0)))) ≡ true = rw (within-positive (least (rangeOf 1)) (most (rangeOf 1)) (getD hull 1 (pos 0)) (w .1)) (w .1) in
       points-of-front ∙ sym (simp (n, m, chosen))
 
 pub points-room : (hull : List ℤ) → pointsIn hull ≤ roomForHalfBreadths
@@ -119,30 +119,28 @@ points-room hull =
     (λ m.
     let a = within-whole (rangeOf 0) (natAbs (getD hull 0 (pos 0))) n .1 in
     let b = within-whole (rangeOf 1) (natAbs (getD hull 1 (pos 0))) m .1 in
-    let c : natAbs (getD hull 0 (pos 0)) + 1 ≤ 41 = omega arith in
-    let d : natAbs (getD hull 1 (pos 0)) + 1 ≤ 21 = omega arith in
-    mul-le-mul c d)
+    points-most a b)
     (λ m. omega arith))
     (λ n. omega arith)
 
 -- ---- the file
 module _ (text : List ℕ) (hull half items tanks : List ℤ) (five hullRead grid gridRead aboard aboardRead held heldRead end : Step) (points-read item-numbers tank-numbers : ℕ) where
   pub record Steps : Type 0 where
-    pub count-five : Counts text (S.At 0 0) 5 5 five
-    pub hull-numbers : ReadsAfter text five 0 5 5 hull hullRead
+    pub count-five : Counts text (S.At 0 0) (length particulars) (length particulars) five
+    pub hull-numbers : ReadsAfter text five 0 (length particulars) (length particulars) hull hullRead
     pub count-grid : Counts text hullRead (pointsIn hull) (pointsIn hull) grid
-    pub grid-numbers : ReadsAfter text grid 5 1 points-read half gridRead
+    pub grid-numbers : ReadsAfter text grid halfBreadthField 1 points-read half gridRead
     pub points-are : points-read ≡ countOf grid
     pub count-aboard : Counts text gridRead 0 mostItems aboard
-    pub aboard-numbers : ReadsAfter text aboard 6 4 item-numbers items aboardRead
-    pub items-are : item-numbers ≡ 4 * countOf aboard
+    pub aboard-numbers : ReadsAfter text aboard itemField itemWidth item-numbers items aboardRead
+    pub items-are : item-numbers ≡ itemWidth * countOf aboard
     pub count-held : Counts text aboardRead 0 mostTanks held
-    pub held-numbers : ReadsAfter text held 10 8 tank-numbers tanks heldRead
-    pub tanks-are : tank-numbers ≡ 8 * countOf held
+    pub held-numbers : ReadsAfter text held tankField tankWidth tank-numbers tanks heldRead
+    pub tanks-are : tank-numbers ≡ tankWidth * countOf held
     pub finished : Finishes text heldRead end
 
   abbrev contents : Contents
-  contents = record { hull = take 5 hull; halfBreadths = take points-read half; items = take item-numbers items; tanks = take tank-numbers tanks }
+  contents = record { hull = hullIn hull; halfBreadths = take points-read half; items = take item-numbers items; tanks = take tank-numbers tanks }
 
   abbrev len : ℕ
   len = length text
@@ -161,35 +159,35 @@ module _ (text : List ℕ) (hull half items tanks : List ℤ) (five hullRead gri
   after-hull h k ts = andThen (section len k k halfBreadth ts) (λ read. after-half h (read .0) (read .1))
 
   -- the fields of each section, as the steps number them
-  hull-fields : rangesFrom 0 5 5 0 ≡ particulars
+  hull-fields : rangesFrom 0 (length particulars) (length particulars) 0 ≡ particulars
   unfolding rangesFrom
   hull-fields = refl
 
-  half-fields : rangesFrom 5 1 1 0 ≡ halfBreadth
+  half-fields : rangesFrom halfBreadthField 1 1 0 ≡ halfBreadth
   unfolding rangesFrom
   half-fields = refl
 
-  item-fields : rangesFrom 6 4 4 0 ≡ item
+  item-fields : rangesFrom itemField itemWidth itemWidth 0 ≡ item
   unfolding rangesFrom
   item-fields = refl
 
-  tank-fields : rangesFrom 10 8 8 0 ≡ tank
+  tank-fields : rangesFrom tankField tankWidth tankWidth 0 ≡ tank
   unfolding rangesFrom
   tank-fields = refl
 
   -- where the hull was read, its points are those that its numbers make
-  sized-after : (f : Step) (rest : List Token) → andThen (onStep text f) (λ at. numbers len particulars (at .1)) ≡ answered (take 5 hull, rest) → points (take 5 hull) ≡ pointsIn hull
+  sized-after : (f : Step) (rest : List Token) → andThen (onStep text f) (λ at. numbers len particulars (at .1)) ≡ answered (hullIn hull, rest) → points (hullIn hull) ≡ pointsIn hull
   unfolding onStep andThen
   sized-after (S.At k next) rest h = sized len hull (tokensAt text next) rest h
   sized-after (S.Refused r) rest h = refused-not h
 
-  points-step : (r : Step) → andThen (onStep text five) (λ at. numbers len particulars (at .1)) ≡ onNumbers text (take 5 hull) r → andThen (onStep text r) (λ at. after-hull (take 5 hull) (points (take 5 hull)) (at .1)) ≡ andThen (onStep text r) (λ at. after-hull (take 5 hull) (pointsIn hull) (at .1))
+  points-step : (r : Step) → andThen (onStep text five) (λ at. numbers len particulars (at .1)) ≡ onNumbers text (hullIn hull) r → andThen (onStep text r) (λ at. after-hull (hullIn hull) (points (hullIn hull)) (at .1)) ≡ andThen (onStep text r) (λ at. after-hull (hullIn hull) (pointsIn hull) (at .1))
   unfolding onStep onNumbers andThen
-  points-step (S.At k next) h = ap (λ n. after-hull (take 5 hull) n (tokensAt text next)) (sized-after five (tokensAt text next) h)
+  points-step (S.At k next) h = ap (λ n. after-hull (hullIn hull) n (tokensAt text next)) (sized-after five (tokensAt text next) h)
   points-step (S.Refused r) h = refl
 
   module _ (s : Steps) where
-    start : count len 5 5 (tokens text) ≡ onStep text five
+    start : count len (length particulars) (length particulars) (tokens text) ≡ onStep text five
     unfolding onStep andThen tokensAt
     start = s .count-five .read
 
@@ -197,31 +195,31 @@ module _ (text : List ℕ) (hull half items tanks : List ℤ) (five hullRead gri
     unfolding file after-hull after-half after-items after-tanks
     opened = ap (λ m. andThen m (λ at. andThen (numbers len particulars (at .1)) (λ read. after-hull (read .0) (points (read .0)) (read .1)))) start
 
-    hull-read : andThen (onStep text five) (λ at. numbers len particulars (at .1)) ≡ onNumbers text (take 5 hull) hullRead
+    hull-read : andThen (onStep text five) (λ at. numbers len particulars (at .1)) ≡ onNumbers text (hullIn hull) hullRead
     hull-read = rw hull-fields at (s .hull-numbers)
 
-    with-hull : andThen (onStep text five) (λ at. andThen (numbers len particulars (at .1)) (λ read. after-hull (read .0) (points (read .0)) (read .1))) ≡ andThen (onStep text hullRead) (λ at. after-hull (take 5 hull) (points (take 5 hull)) (at .1))
+    with-hull : andThen (onStep text five) (λ at. andThen (numbers len particulars (at .1)) (λ read. after-hull (read .0) (points (read .0)) (read .1))) ≡ andThen (onStep text hullRead) (λ at. after-hull (hullIn hull) (points (hullIn hull)) (at .1))
     with-hull =
         sym (then-assoc (onStep text five) (λ at. numbers len particulars (at .1)) (λ read. after-hull (read .0) (points (read .0)) (read .1)))
         ∙ ap (λ m. andThen m (λ read. after-hull (read .0) (points (read .0)) (read .1))) hull-read
-        ∙ numbers-step text (take 5 hull) hullRead (λ h ts. after-hull h (points h) ts)
+        ∙ numbers-step text (hullIn hull) hullRead (λ h ts. after-hull h (points h) ts)
 
-    with-half : andThen (onStep text hullRead) (λ at. after-hull (take 5 hull) (pointsIn hull) (at .1)) ≡ andThen (onStep text gridRead) (λ at. after-half (take 5 hull) (take points-read half) (at .1))
+    with-half : andThen (onStep text hullRead) (λ at. after-hull (hullIn hull) (pointsIn hull) (at .1)) ≡ andThen (onStep text gridRead) (λ at. after-half (hullIn hull) (take points-read half) (at .1))
     unfolding after-hull
     with-half =
-        section-step text hullRead grid gridRead (pointsIn hull) (pointsIn hull) 5 1 points-read half halfBreadth (after-half (take 5 hull)) (s .count-grid) (s .grid-numbers) (omega (arith, s .points-are)) half-fields
+        section-step text hullRead grid gridRead (pointsIn hull) (pointsIn hull) halfBreadthField 1 points-read half halfBreadth (after-half (hullIn hull)) (s .count-grid) (s .grid-numbers) (omega (arith, s .points-are)) half-fields
 
-    with-items : andThen (onStep text gridRead) (λ at. after-half (take 5 hull) (take points-read half) (at .1)) ≡ andThen (onStep text aboardRead) (λ at. after-items (take 5 hull) (take points-read half) (take item-numbers items) (at .1))
+    with-items : andThen (onStep text gridRead) (λ at. after-half (hullIn hull) (take points-read half) (at .1)) ≡ andThen (onStep text aboardRead) (λ at. after-items (hullIn hull) (take points-read half) (take item-numbers items) (at .1))
     unfolding after-half
     with-items =
-        section-step text gridRead aboard aboardRead 0 mostItems 6 4 item-numbers items item (after-items (take 5 hull) (take points-read half)) (s .count-aboard) (s .aboard-numbers) (s .items-are) item-fields
+        section-step text gridRead aboard aboardRead 0 mostItems itemField itemWidth item-numbers items item (after-items (hullIn hull) (take points-read half)) (s .count-aboard) (s .aboard-numbers) (s .items-are) item-fields
 
-    with-tanks : andThen (onStep text aboardRead) (λ at. after-items (take 5 hull) (take points-read half) (take item-numbers items) (at .1)) ≡ andThen (onStep text heldRead) (λ at. after-tanks (take 5 hull) (take points-read half) (take item-numbers items) (take tank-numbers tanks) (at .1))
+    with-tanks : andThen (onStep text aboardRead) (λ at. after-items (hullIn hull) (take points-read half) (take item-numbers items) (at .1)) ≡ andThen (onStep text heldRead) (λ at. after-tanks (hullIn hull) (take points-read half) (take item-numbers items) (take tank-numbers tanks) (at .1))
     unfolding after-items
     with-tanks =
-        section-step text aboardRead held heldRead 0 mostTanks 10 8 tank-numbers tanks tank (after-tanks (take 5 hull) (take points-read half) (take item-numbers items)) (s .count-held) (s .held-numbers) (s .tanks-are) tank-fields
+        section-step text aboardRead held heldRead 0 mostTanks tankField tankWidth tank-numbers tanks tank (after-tanks (hullIn hull) (take points-read half) (take item-numbers items)) (s .count-held) (s .held-numbers) (s .tanks-are) tank-fields
 
-    closed : andThen (onStep text heldRead) (λ at. after-tanks (take 5 hull) (take points-read half) (take item-numbers items) (take tank-numbers tanks) (at .1)) ≡ onEnd text contents end
+    closed : andThen (onStep text heldRead) (λ at. after-tanks (hullIn hull) (take points-read half) (take item-numbers items) (take tank-numbers tanks) (at .1)) ≡ onEnd text contents end
     unfolding after-tanks
     closed = s .finished contents
 

@@ -11,13 +11,14 @@ use mathlib.Core.Path.{_≡_, refl, sym, ap, ap₂, _∙_}
 use mathlib.Core.Bool.{true}
 use mathlib.Core.Logic.{⊎-elim}
 use mathlib.Core.List.{List, [], _∷_, _++_, map}
-use Prim.Native.Nat.{ℕ, zero, suc, _+_, _-_, _*_, _%_, _≤_, _<_}
+use Prim.Native.Nat.{ℕ, zero, suc, _+_, _-_, _*_, _%_, _^_, _≤_, _<_}
 use native.Mathlib.Nat.{suc-mul, zero-mul, mod-eq-of-lt, add-mod-left}
 use native.Mathlib.Omega.{arith}
 use lib.IntN.{ℤ, pos, natAbs}
 use lib.ListN.{length, getD, length-append, List·getD-append}
 use lib.Seq.{getD-append-add}
 use Rattle.arithmetic.proofs.Tests.{less-or-not}
+use Rattle.numerals.specs.Number.{mostDigits}
 use Rattle.ranges.specs.Fields.{Range, _to_, ±_, within, most}
 use Rattle.ranges.specs.Outside.{firstOutside}
 use Rattle.ranges.proofs.Facts.{all-within, all-inside, within-size, within-positive}
@@ -98,7 +99,7 @@ every-records P (suc k) section h = every-append P section (records k section) h
 
 -- a range of numbers of nine digits at the most
 abbrev pub Few : Range → Type 0
-Few r = most r < 1_000_000_000
+Few r = most r < 10 ^ mostDigits
 
 pub short-in-ranges : {rs : List Range} {vs : List ℤ} → Every Few rs → InRanges rs vs → Short vs
 short-in-ranges s no-more = tt

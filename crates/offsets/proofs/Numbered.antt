@@ -10,7 +10,7 @@ use lib.IntN.{ℤ}
 use lib.ListN.{length}
 use Rattle.ranges.specs.Fields.{Range, _to_, particulars, halfBreadth, item, tank}
 use Rattle.ranges.specs.Outcome.{Outcome, answered, refused, Numbered}
-use Rattle.ranges.specs.Refusals.{countNotAllowed, outOfRange}
+use Rattle.ranges.specs.Refusals.{firstRefusal, lastRefusal, countNotAllowed, outOfRange}
 use Rattle.ranges.specs.Sizes.{mostItems, mostTanks}
 use Rattle.ranges.specs.declared.Particulars.{Particulars}
 use Rattle.ranges.proofs.Numbered.{numbered, answered-numbered, passed-on, then-numbered}
@@ -21,7 +21,7 @@ use Rattle.offsets.specs.Tokens.{Token, number, noNumber, tokens}
 use Rattle.offsets.specs.Writer.{writerOf, lengthOf}
 
 module _ (len : ℕ) where
-  pub one-numbered : (why : ℕ) (range : Range) (ts : List Token) → 1 ≤ why → why ≤ 14 → Numbered (one len why range ts)
+  pub one-numbered : (why : ℕ) (range : Range) (ts : List Token) → firstRefusal ≤ why → why ≤ lastRefusal → Numbered (one len why range ts)
   unfolding one
   one-numbered why range [] least most = search numbered
   one-numbered why range (noNumber place ∷ ts) least most = search numbered
@@ -50,7 +50,7 @@ module _ (len : ℕ) where
   pub file-numbered : (ts : List Token) → Numbered (file len ts)
   unfolding file
   file-numbered ts =
-      then-numbered (count-numbered 5 5 ts) (λ five.
+      then-numbered (count-numbered (length particulars) (length particulars) ts) (λ five.
       then-numbered (numbers-numbered particulars (five .1)) (λ hull.
       then-numbered (section-numbered (points (hull .0)) (points (hull .0)) halfBreadth (hull .1)) (λ halfBreadths.
       then-numbered (section-numbered 0 mostItems item (halfBreadths .1)) (λ items.

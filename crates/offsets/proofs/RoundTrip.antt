@@ -8,12 +8,13 @@
 use mathlib.Core.Path.{_≡_, refl, sym, ap₂, _∙_}
 use mathlib.Core.Bool.{true}
 use mathlib.Core.List.{List, [], _∷_, map, append-assoc}
-use Prim.Native.Nat.{ℕ, _+_, _*_, _/_, _%_, _≤_, _<_}
+use Prim.Native.Nat.{ℕ, _+_, _*_, _%_, _^_, _≤_, _<_}
 use native.Mathlib.Nat.{mul-one, div-add-mod'}
 use native.Mathlib.Omega.{arith}
 use borrow.Author.Tests.{eq-eqb, le-leb}
 use lib.IntN.{ℤ, pos, natAbs}
 use lib.ListN.{length, length-map}
+use Rattle.numerals.specs.Number.{mostDigits}
 use Rattle.ranges.specs.Fields.{Range, particulars, halfBreadth, item, tank}
 use Rattle.ranges.specs.Outcome.{answered}
 use Rattle.ranges.specs.Outside.{firstOutside, numbersOf, particularsOf}
@@ -22,7 +23,6 @@ use Rattle.ranges.specs.declared.Particulars.{Particulars}
 use Rattle.ranges.proofs.Facts.{records-are}
 use Rattle.offsets.specs.File.{Contents, records, points, file}
 use Rattle.offsets.specs.Private.Putting.{Passes}
-use Rattle.offsets.specs.Reader.{summaryOf}
 use Rattle.offsets.specs.Tokens.{tokens}
 use Rattle.offsets.specs.Written.{lines, counted, sectionText, textOf}
 use Rattle.offsets.specs.Writer.{writerOf}
@@ -83,7 +83,7 @@ module _ (p : Particulars) (h : List ℕ) (i t : List ℤ) where
       }
 
 -- ---- the text
-counted-spells : (k : ℕ) → k < 1_000_000_000 → Spells (pos k ∷ []) (counted k)
+counted-spells : (k : ℕ) → k < 10 ^ mostDigits → Spells (pos k ∷ []) (counted k)
 counted-spells k h = line-spells (pos k ∷ []) (omega arith) (h, tt)
 
 module _ (fields : List Range) (few : Every Few fields) where
@@ -91,7 +91,7 @@ module _ (fields : List Range) (few : Every Few fields) where
   lines-in-range width k n table some e i =
       lines-spell width k table some (in-ranges-length i ∙ length-of-records n fields ∙ e) (short-in-ranges (every-records Few n fields few) i)
 
-  section-spells : (table : List ℤ) → 0 < length fields → recordsIn fields table < 1_000_000_000 → InRanges (records (recordsIn fields table) fields) table
+  section-spells : (table : List ℤ) → 0 < length fields → recordsIn fields table < 10 ^ mostDigits → InRanges (records (recordsIn fields table) fields) table
       → Spells (pos (recordsIn fields table) ∷ table) (sectionText (length fields) table)
   unfolding sectionText
   section-spells table some short i =
@@ -107,7 +107,7 @@ module _ (p : Particulars) (h : List ℕ) (i t : List ℤ) (s : Sound (contentsO
       let half = lines-in-range halfBreadth (omega arith) (p .m + 1) (p .n + 1) n (map pos h) (omega arith) (mul-one n) (s .half-breadths) in
       let items = section-spells item (omega arith) i (omega arith) (omega (arith, s .few-items)) (s .items) in
       let tanks = section-spells tank (omega arith) t (omega arith) (omega (arith, s .few-tanks)) (s .tanks) in
-      spells-append (counted-spells 5 (omega arith)) (spells-append hull (spells-append (counted-spells n (omega (arith, points-le (s .hull)))) (spells-append half (spells-append items tanks)))))
+      spells-append (counted-spells (length particulars) (omega arith)) (spells-append hull (spells-append (counted-spells n (omega (arith, points-le (s .hull)))) (spells-append half (spells-append items tanks)))))
 
   pub length-of-text : length (textOf p h i t) ≤ longestFile
   length-of-text = omega (arith, length-of-spelled text-spells, length-of-numbers (contentsOf p h i t) s)
@@ -122,10 +122,6 @@ written-is-read p h i t room e =
     let a = answered-passes p h i t room e in
     let s = passes-sound p h i t (a .passes) in
     rw (a .text-is) (length-of-text p h i t s, text-is-read p h i t s)
-
--- what is summarised of what was written
-pub summary-of-contents : (p : Particulars) (h : List ℕ) (i t : List ℤ) → summaryOf (contentsOf p h i t) ≡ record { particulars = p; items = length i / 4; tanks = length t / 8 }
-summary-of-contents p h i t = refl
 
 -- ---- what was read can be written
 hull-again : {hull : List ℤ} → InRanges particulars hull → numbersOf (particularsOf hull) ≡ hull

@@ -1,7 +1,7 @@
 -- Contents that a file can say: those of every file that is read, and of every file that is written.
 --     Sound                     each number in its range, and no more items and tanks than allowed
---     hull-most, points-le      no hull has more stations, waterlines or points than there is room for
---     numbersIn                 the numbers of a file of these contents, in their order
+--     hull-most, points-most, points-le      no hull has more stations, waterlines or points than there is room for
+--     numbersIn, mostNumbers    the numbers of a file of these contents, in their order, and how many there can be
 --     file-of-said              tokens that say them are read as these contents
 --     file-sound                what is read from a file is sound
 -- Assumes nothing.
@@ -15,9 +15,10 @@ use lib.Dec.{lit≤}
 use lib.IntN.{ℤ, pos, natAbs}
 use lib.ListN.{length, getD, length-append}
 use Rattle.arithmetic.proofs.Choice.{chosen}
-use Rattle.ranges.specs.Fields.{Range, _to_, within, particulars, halfBreadth, item, tank}
+use Rattle.ranges.specs.Fields.{Range, _to_, most, rangeOf, within, particulars, halfBreadth, item, tank}
 use Rattle.ranges.specs.Outcome.{Outcome, answered, andThen}
-use Rattle.ranges.specs.Sizes.{roomForHalfBreadths, mostItems, mostTanks}
+use Rattle.ranges.specs.Refusals.{countNotAllowed, outOfRange}
+use Rattle.ranges.specs.Sizes.{pointsOf, itemWidth, tankWidth, roomForHalfBreadths, roomForItems, roomForTanks, mostItems, mostTanks}
 use Rattle.ranges.proofs.Facts.{whole-within, within-size}
 use Rattle.ranges.proofs.Outcomes.{refused-not, answer-same, answered-then}
 use Rattle.offsets.specs.File.{Contents, records, points, section, complete, file}
@@ -40,24 +41,26 @@ pub record Sound (c : Contents) : Type 0 where
   pub tanks : InRanges (records (recordsIn tank (c .tanks)) tank) (c .tanks)
 
 -- n and m of a hull
-pub hull-most : {hull : List ℤ} → InRanges particulars hull → (natAbs (getD hull 0 (pos 0)) ≤ 40) × (natAbs (getD hull 1 (pos 0)) ≤ 20)
+pub hull-most : {hull : List ℤ} → InRanges particulars hull → (natAbs (getD hull 0 (pos 0)) ≤ most (rangeOf 0)) × (natAbs (getD hull 1 (pos 0)) ≤ most (rangeOf 1))
 hull-most (and-in {r = r} {v = n} a (and-in {r = q} {v = m} b more)) = (within-size r n a .1, within-size q m b .1)
 
+pub points-most : {n m : ℕ} → n ≤ most (rangeOf 0) → m ≤ most (rangeOf 1) → pointsOf n m ≤ roomForHalfBreadths
+points-most {n} {m} long high =
+    let stations : n + 1 ≤ most (rangeOf 0) + 1 = omega arith in
+    let waterlines : m + 1 ≤ most (rangeOf 1) + 1 = omega arith in
+    mul-le-mul stations waterlines
+
 pub points-le : {hull : List ℤ} → InRanges particulars hull → points hull ≤ roomForHalfBreadths
-points-le {hull} i =
-    let h = hull-most i in
-    let long : natAbs (getD hull 0 (pos 0)) + 1 ≤ 41 = omega (arith, h .0) in
-    let high : natAbs (getD hull 1 (pos 0)) + 1 ≤ 21 = omega (arith, h .1) in
-    mul-le-mul long high
+points-le i = let h = hull-most i in points-most (h .0) (h .1)
 
 module _ (c : Contents) (s : Sound c) where
   pub length-of-half-breadths : length (c .halfBreadths) ≡ points (c .hull)
   length-of-half-breadths = in-ranges-length (s .half-breadths) ∙ length-of-records (points (c .hull)) halfBreadth ∙ mul-one (points (c .hull))
 
-  pub length-of-items : length (c .items) ≡ recordsIn item (c .items) * length item
+  pub length-of-items : length (c .items) ≡ recordsIn item (c .items) * itemWidth
   length-of-items = in-ranges-length (s .items) ∙ length-of-records (recordsIn item (c .items)) item
 
-  pub length-of-tanks : length (c .tanks) ≡ recordsIn tank (c .tanks) * length tank
+  pub length-of-tanks : length (c .tanks) ≡ recordsIn tank (c .tanks) * tankWidth
   length-of-tanks = in-ranges-length (s .tanks) ∙ length-of-records (recordsIn tank (c .tanks)) tank
 
 -- the numbers of a file from the count of each section on, and all of them
@@ -71,10 +74,13 @@ abbrev pub halfBreadthsOn : Contents → List ℤ
 halfBreadthsOn c = pos (points (c .hull)) ∷ c .halfBreadths ++ itemsOn c
 
 abbrev pub numbersIn : Contents → List ℤ
-numbersIn c = pos 5 ∷ c .hull ++ halfBreadthsOn c
+numbersIn c = pos (length particulars) ∷ c .hull ++ halfBreadthsOn c
 
--- four counts, 5 particulars, 861 half-breadths, 128 numbers of items and 128 of tanks at the most
-pub length-of-numbers : (c : Contents) → Sound c → length (numbersIn c) ≤ 1_126
+-- four counts, the particulars, and the numbers of the largest tables
+abbrev pub mostNumbers : ℕ
+mostNumbers = 4 + length particulars + roomForHalfBreadths + roomForItems + roomForTanks
+
+pub length-of-numbers : (c : Contents) → Sound c → length (numbersIn c) ≤ mostNumbers
 length-of-numbers c s =
     simp length-append
     (omega (arith, in-ranges-length (s .hull), length-of-half-breadths c s, points-le (s .hull), length-of-items c s, s .few-items, length-of-tanks c s, s .few-tanks))
@@ -93,14 +99,14 @@ module _ (textLength : ℕ) where
   count-takes : {more : List ℤ} {ts : List Token} (least most k : ℕ) → least ≤ k → k ≤ most → Says (pos k ∷ more) ts → Takes (count textLength least most ts) k more
   unfolding count andThen
   count-takes least most k l u s =
-      let o = one-takes 3 (least to most) (whole-within least most k (l, u)) s in
+      let o = one-takes countNotAllowed (least to most) (whole-within least most k (l, u)) s in
       record { rest = o .rest; read = rw (o .read); says = o .says }
 
   numbers-take : {rs : List Range} {vs : List ℤ} → InRanges rs vs → (more : List ℤ) (ts : List Token) → Says (vs ++ more) ts → Takes (numbers textLength rs ts) vs more
   unfolding numbers andThen
   numbers-take no-more more ts s = record { rest = ts; read = refl; says = s }
   numbers-take (and-in {r = r} w i) more ts s =
-      let o = one-takes 4 r w s in
+      let o = one-takes outOfRange r w s in
       let n = numbers-take i more (o .rest) (o .says) in
       record { rest = n .rest; read = rw (o .read, n .read); says = n .says }
 
@@ -119,7 +125,7 @@ module _ (textLength : ℕ) where
   pub file-of-said : (c : Contents) (ts : List Token) → Sound c → Says (numbersIn c) ts → file textLength ts ≡ answered c
   unfolding file andThen
   file-of-said c ts h s =
-      let five = count-takes 5 5 5 (lit≤ tt) (lit≤ tt) s in
+      let five = count-takes (length particulars) (length particulars) (length particulars) (lit≤ tt) (lit≤ tt) s in
       let hull = numbers-take (h .hull) (halfBreadthsOn c) (five .rest) (five .says) in
       let p = points (c .hull) in
       let half = section-takes p p p halfBreadth (omega arith) (omega arith) (h .half-breadths) (itemsOn c) (hull .rest) (hull .says) in

@@ -3,20 +3,20 @@
 --     Spells                               a text of numbers, none of more than nine digits, each with a separator after it
 --     spells-says                          the tokens of a text that spells numbers say them
 --     spells-append                        two such texts, one after the other
---     length-of-spelled                    eleven bytes a number at the most
+--     mostSpelled, length-of-spelled       eleven bytes a number at the most
 --     Short, short-take, short-drop        numbers of nine digits at the most, and parts of them
 --     line-spells, lines-spell             a line and the lines of a table spell their numbers
 -- Assumes nothing.
 use mathlib.Core.Path.{_≡_, refl, _∙_}
 use mathlib.Core.Bool.{true, false}
 use mathlib.Core.List.{List, [], _∷_, _++_, append-assoc, append-nil}
-use Prim.Native.Nat.{ℕ, zero, suc, _+_, _-_, _*_, _≤_, _<_}
+use Prim.Native.Nat.{ℕ, zero, suc, _+_, _-_, _*_, _^_, _≤_, _<_}
 use native.Mathlib.Nat.{suc-mul, zero-mul, add-zero}
 use native.Mathlib.Omega.{arith}
 use lib.IntN.{ℤ, natAbs}
 use lib.ListN.{length, take, drop, getD, length-append, length-take, length-drop, take-append-drop}
 use Rattle.arithmetic.proofs.Choice.{chosen}
-use Rattle.numerals.specs.Number.{numberOf}
+use Rattle.numerals.specs.Number.{mostDigits, numberOf}
 use Rattle.numerals.specs.Printed.{printed}
 use Rattle.numerals.proofs.Printed.{number-of-printed, some-of-printed, length-of-printed, every-printed}
 use Rattle.offsets.specs.Tokens.{Token, number, isSeparator, said, closed, tokensFrom, space, lineFeed}
@@ -29,7 +29,7 @@ pub data Says : List ℤ → List Token → Type 0 where
 
 pub data Spells : List ℤ → List ℕ → Type 0 where
   empty : Spells [] []
-  next : {vs : List ℤ} {text : List ℕ} (v : ℤ) (b : ℕ) → natAbs v < 1_000_000_000 → isSeparator b ≡ true → Spells vs text → Spells (v ∷ vs) (printed v ++ b ∷ text)
+  next : {vs : List ℤ} {text : List ℕ} (v : ℤ) (b : ℕ) → natAbs v < 10 ^ mostDigits → isSeparator b ≡ true → Spells vs text → Spells (v ∷ vs) (printed v ++ b ∷ text)
 
 -- ---- a printed number is one token
 clear-of : (l : List ℕ) → ((k : ℕ) → k < length l → isSeparator (getD l k 0) ≡ false) → Clear l
@@ -59,7 +59,7 @@ closed-is place [] rest h = absurd (omega arith)
 closed-is place (b ∷ run) rest h = let start : place + suc (length run) - suc (length run) ≡ place = omega arith in rw start
 
 module _ (v : ℤ) (b place : ℕ) (text : List ℕ) where
-  number-token : natAbs v < 1_000_000_000 → isSeparator b ≡ true → tokensFrom place [] (printed v ++ b ∷ text) ≡ number place v ∷ tokensFrom (place + length (printed v) + 1) [] text
+  number-token : natAbs v < 10 ^ mostDigits → isSeparator b ≡ true → tokensFrom place [] (printed v ++ b ∷ text) ≡ number place v ∷ tokensFrom (place + length (printed v) + 1) [] text
   unfolding said
   number-token h e =
       run-takes (clear-printed v) place [] (b ∷ text)
@@ -79,15 +79,19 @@ pub spells-append : {vs ws : List ℤ} {a b : List ℕ} → Spells vs a → Spel
 spells-append empty t = t
 spells-append (next v b h e s) t = rw append-assoc (next v b h e (spells-append s t))
 
-pub length-of-spelled : {vs : List ℤ} {text : List ℕ} → Spells vs text → length text ≤ 11 * length vs
+-- the digits, a minus and a separator
+abbrev pub mostSpelled : ℕ
+mostSpelled = mostDigits + 2
+
+pub length-of-spelled : {vs : List ℤ} {text : List ℕ} → Spells vs text → length text ≤ mostSpelled * length vs
 length-of-spelled empty = omega arith
 length-of-spelled (next {text = text} v b h e s) =
-    omega (arith, length-append (printed v) (b ∷ text), length-of-printed v 9 (omega arith) h, length-of-spelled s)
+    omega (arith, length-append (printed v) (b ∷ text), length-of-printed v mostDigits (omega arith) h, length-of-spelled s)
 
 -- ---- lines
 abbrev pub Short : List ℤ → Type 0
 Short [] = Unit
-Short (v ∷ vs) = (natAbs v < 1_000_000_000) × Short vs
+Short (v ∷ vs) = (natAbs v < 10 ^ mostDigits) × Short vs
 
 pub short-take : (n : ℕ) (vs : List ℤ) → Short vs → Short (take n vs)
 short-take zero vs h = tt

@@ -3,16 +3,16 @@
 --     numbers-passed, numbers-at       numbers
 --     finish-passed, finish-end, finish-none, finish-number      nothing may follow
 -- Assumes nothing.
-use mathlib.Core.Path.{_≡_, sym, _∙_}
+use mathlib.Core.Path.{_≡_, _∙_}
 use mathlib.Core.List.{List, [], _∷_}
 use Prim.Native.Nat.{ℕ, _≤_}
 use native.Mathlib.Omega.{arith}
 use lib.IntN.{ℤ}
-use lib.ListN.{length, take}
+use lib.ListN.{length}
 use Rattle.ranges.specs.Outcome.{Outcome, andThen}
 use Rattle.ranges.specs.Refusals.{tokenAfterEnd}
 use Rattle.ranges.specs.declared.Refusal.{Refusal}
-use Rattle.offsets.specs.File.{Contents, complete}
+use Rattle.offsets.specs.File.{complete}
 use Rattle.offsets.specs.Reading.{count, numbers}
 use Rattle.offsets.specs.Private.Steps.{tokensAt, Begins, onStep, onNumbers, onEnd, countOf, rangesFrom, Counts, ReadsFrom, ReadsAfter, Finishes}
 use Rattle.offsets.specs.Tokens.{Token, number, noNumber}

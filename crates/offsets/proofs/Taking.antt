@@ -3,8 +3,8 @@
 --     one-end, one-none, one-in, one-out       a number of a range: no token, no number, within it, out of it
 --     count-end, count-none, count-in, count-out      the same for a count
 -- Assumes nothing.
-use mathlib.Core.Path.{_≡_, refl, sym, ap, _∙_}
-use mathlib.Core.Bool.{Bool, true, false, _&&_}
+use mathlib.Core.Path.{_≡_, refl, sym}
+use mathlib.Core.Bool.{true, false, _&&_}
 use mathlib.Core.List.{List, [], _∷_}
 use Prim.Native.Nat.{ℕ}
 use lib.Dec.{leb}
@@ -13,7 +13,7 @@ use Rattle.arithmetic.specs.Signed.{isNegative}
 use Rattle.arithmetic.proofs.Choice.{chosen}
 use Rattle.arithmetic.proofs.Tests.{never}
 use Rattle.ranges.specs.Fields.{Range, _to_, within}
-use Rattle.ranges.specs.Outcome.{Outcome, answered, refused, andThen}
+use Rattle.ranges.specs.Outcome.{answered, refused, andThen}
 use Rattle.ranges.specs.Refusals.{notANumber, countNotAllowed, endsTooEarly}
 use Rattle.offsets.specs.Reading.{one, count}
 use Rattle.offsets.specs.Private.Steps.{Begins}

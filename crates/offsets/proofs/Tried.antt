@@ -18,7 +18,7 @@ use Rattle.ranges.specs.Fields.{particulars, halfBreadth, item, tank}
 use Rattle.ranges.specs.Outcome.{answered, refused}
 use Rattle.ranges.specs.Outside.{firstOutside, numbersOf}
 use Rattle.ranges.specs.Refusals.{outOfRange, wrongSize, roomTooShort, placeOfHalfBreadths, placeOfItems, placeOfTanks, halfBreadthTable, itemTable, tankTable}
-use Rattle.ranges.specs.Sizes.{pointsOf, wholeRecords, mostItems, mostTanks}
+use Rattle.ranges.specs.Sizes.{pointsOf, itemWidth, tankWidth, wholeRecords, mostItems, mostTanks}
 use Rattle.ranges.specs.declared.Particulars.{Particulars}
 use Rattle.ranges.proofs.Outcomes.{not-refused}
 use Rattle.offsets.specs.Private.Putting.{RightSizes, Passes}
@@ -37,11 +37,11 @@ module _ (p : Particulars) (h : List ℕ) (i t : List ℤ) (room : ℕ) where
     refuses-half-breadth-size n = simp (le-ltb _ _ a, ne-eqb _ _ n, chosen)
 
     module _ (b : length h ≡ pointsOf (p .n) (p .m)) where
-      pub refuses-item-size : wholeRecords (length item) mostItems (length i) ≡ false → writerOf p h i t room ≡ refused wrongSize itemTable
+      pub refuses-item-size : wholeRecords itemWidth mostItems (length i) ≡ false → writerOf p h i t room ≡ refused wrongSize itemTable
       unfolding writerOf
       refuses-item-size e = simp (le-ltb _ _ a, eq-eqb _ _ b, e, chosen)
 
-      pub refuses-tank-size : wholeRecords (length item) mostItems (length i) ≡ true → wholeRecords (length tank) mostTanks (length t) ≡ false → writerOf p h i t room ≡ refused wrongSize tankTable
+      pub refuses-tank-size : wholeRecords itemWidth mostItems (length i) ≡ true → wholeRecords tankWidth mostTanks (length t) ≡ false → writerOf p h i t room ≡ refused wrongSize tankTable
       unfolding writerOf
       refuses-tank-size c e = simp (le-ltb _ _ a, eq-eqb _ _ b, c, e, chosen)
 

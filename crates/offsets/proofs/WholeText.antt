@@ -13,7 +13,7 @@ use lib.Seq.{sets-eq, take-at, take-length}
 use Rattle.ranges.specs.Private.InRange.{ParticularsInRange}
 use Rattle.ranges.specs.Outcome.{refused}
 use Rattle.ranges.specs.Refusals.{roomTooShort}
-use Rattle.ranges.specs.Sizes.{longestFile}
+use Rattle.ranges.specs.Sizes.{longestFile, itemWidth, tankWidth}
 use Rattle.ranges.specs.declared.Particulars.{Particulars}
 use Rattle.ranges.proofs.Facts.{particulars-in-range, half-breadths-in-range}
 use Rattle.offsets.specs.Private.Putting.{Passes, RoomFor, RoomForStations, RoomForSection, Puts, hullText, stationsText}
@@ -27,7 +27,7 @@ use Rattle.offsets.proofs.Sound.{points-le, length-of-items, length-of-
 use Rattle.offsets.proofs.Tried.{answers, refuses-room}
 
 module _ {p : Particulars} {h : List ℕ} {i t : List ℤ} (o : Passes p h i t) where
-  sections : textOf p h i t ≡ ((hullText p ++ stationsText (p .m + 1) (p .n + 1) h) ++ sectionText 4 i) ++ sectionText 8 t
+  sections : textOf p h i t ≡ ((hullText p ++ stationsText (p .m + 1) (p .n + 1) h) ++ sectionText itemWidth i) ++ sectionText tankWidth t
   unfolding textOf
   sections = rw (o .right-sizes .half-breadth-size) (simp append-assoc)
 
@@ -35,14 +35,14 @@ module _ {p : Particulars} {h : List ℕ} {i t : List ℤ} (o : Passes p h i t) 
     pub room-for-text : RoomFor (textOf p h i t) text 0
     room-for-text = record { enough = omega (arith, length-of-text p h i t (passes-sound p h i t o)) }
 
-    room : RoomFor (((hullText p ++ stationsText (p .m + 1) (p .n + 1) h) ++ sectionText 4 i) ++ sectionText 8 t) text 0
+    room : RoomFor (((hullText p ++ stationsText (p .m + 1) (p .n + 1) h) ++ sectionText itemWidth i) ++ sectionText tankWidth t) text 0
     room = rw sections at room-for-text
 
-    first-three : RoomFor ((hullText p ++ stationsText (p .m + 1) (p .n + 1) h) ++ sectionText 4 i) text 0
-    first-three = room-first _ (sectionText 8 t) room
+    first-three : RoomFor ((hullText p ++ stationsText (p .m + 1) (p .n + 1) h) ++ sectionText itemWidth i) text 0
+    first-three = room-first _ (sectionText tankWidth t) room
 
     first-two : RoomFor (hullText p ++ stationsText (p .m + 1) (p .n + 1) h) text 0
-    first-two = room-first _ (sectionText 4 i) first-three
+    first-two = room-first _ (sectionText itemWidth i) first-three
 
     pub hull-room : ParticularsInRange p × RoomFor (hullText p) text 0
     hull-room = (particulars-in-range p (o .right-sizes .particulars-in), room-first _ (stationsText (p .m + 1) (p .n + 1) h) first-two)
@@ -58,22 +58,22 @@ module _ {p : Particulars} {h : List ℕ} {i t : List ℤ} (o : Passes p h i t) 
       }
 
       module _ {text₂ : List ℕ} {at₂ : ℕ} (stations : Puts (stationsText (p .m + 1) (p .n + 1) h) text₁ at₁ text₂ at₂) where
-        pub items-room : RoomForSection 4 i text₂ at₂
+        pub items-room : RoomForSection itemWidth i text₂ at₂
         items-room = record {
           some = omega arith;
           whole = length-of-items (contentsOf p h i t) (passes-sound p h i t o);
           room-for = room-second _ first-three (puts-append hull stations);
         }
 
-        module _ {text₃ : List ℕ} {at₃ : ℕ} (items : Puts (sectionText 4 i) text₂ at₂ text₃ at₃) where
-          pub tanks-room : RoomForSection 8 t text₃ at₃
+        module _ {text₃ : List ℕ} {at₃ : ℕ} (items : Puts (sectionText itemWidth i) text₂ at₂ text₃ at₃) where
+          pub tanks-room : RoomForSection tankWidth t text₃ at₃
           tanks-room = record {
             some = omega arith;
             whole = length-of-tanks (contentsOf p h i t) (passes-sound p h i t o);
             room-for = room-second _ room (puts-append (puts-append hull stations) items);
           }
 
-          pub all-put : {text₄ : List ℕ} {at₄ : ℕ} → Puts (sectionText 8 t) text₃ at₃ text₄ at₄ → Puts (textOf p h i t) text 0 text₄ at₄
+          pub all-put : {text₄ : List ℕ} {at₄ : ℕ} → Puts (sectionText tankWidth t) text₃ at₃ text₄ at₄ → Puts (textOf p h i t) text 0 text₄ at₄
           all-put tanks = rw sections (puts-append (puts-append (puts-append hull stations) items) tanks)
 
 -- ---- what is promised of the room

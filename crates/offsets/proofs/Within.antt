@@ -10,6 +10,7 @@ use Prim.Native.Nat.{ℕ, _≤_}
 use lib.IntN.{ℤ, natAbs}
 use Rattle.ranges.specs.Fields.{Range, _to_, within}
 use Rattle.ranges.specs.Outcome.{answered}
+use Rattle.ranges.specs.Refusals.{countNotAllowed, outOfRange}
 use Rattle.ranges.proofs.Facts.{within-size}
 use Rattle.ranges.proofs.Outcomes.{refused-not, answer-same, was-passed, answered-then}
 use Rattle.offsets.specs.Reading.{one, count, numbers}
@@ -31,7 +32,7 @@ module _ (len : ℕ) where
   count-within least most ts {k} e =
       let o = answered-then e in
       let same : natAbs (o .0 .0) ≡ k = ap (λ read. read .0) (answer-same (o .2)) in
-      rw same at (within-size (least to most) (o .0 .0) (one-within 3 (least to most) ts (o .1)))
+      rw same at (within-size (least to most) (o .0 .0) (one-within countNotAllowed (least to most) ts (o .1)))
 
   pub numbers-within : (rs : List Range) (ts : List Token) {vs : List ℤ} {rest : List Token} → numbers len rs ts ≡ answered (vs, rest) → InRanges rs vs
   unfolding numbers
@@ -40,4 +41,4 @@ module _ (len : ℕ) where
       let o = answered-then e in
       let n = answered-then (o .2) in
       let same : o .0 .0 ∷ n .0 .0 ≡ vs = ap (λ read. read .0) (answer-same (n .2)) in
-      rw (← same) (and-in (one-within 4 r ts (o .1)) (numbers-within rs (o .0 .1) (n .1)))
+      rw (← same) (and-in (one-within outOfRange r ts (o .1)) (numbers-within rs (o .0 .1) (n .1)))

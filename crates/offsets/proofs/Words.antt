@@ -6,7 +6,7 @@
 --     first-none, first-number, first-other, first-no-number      the first token from a place on
 -- Assumes nothing.
 use mathlib.Core.Path.{_≡_, refl, sym, ap, subst, _∙_}
-use mathlib.Core.Bool.{Bool, true, false, _||_}
+use mathlib.Core.Bool.{Bool, true, false}
 use mathlib.Core.List.{List, [], _∷_, _++_, append-assoc, append-nil}
 use Prim.Native.Nat.{ℕ, zero, suc, _+_, _-_, _≤_, _<_}
 use native.Mathlib.Nat.{add-zero}
@@ -21,13 +21,12 @@ use Rattle.arithmetic.proofs.Choice.{chosen, if-either}
 use Rattle.arithmetic.proofs.Parts.{drop-step}
 use Rattle.arithmetic.proofs.Tests.{never}
 use Rattle.numerals.specs.Number.{minus, numberOf, isDigit}
-use Rattle.numerals.specs.Front.{digitsOf, front, endsAt, numeralAt}
-use Rattle.numerals.specs.declared.reading.Number.{Number}
-use Rattle.numerals.specs.declared.reading.Number.the-variants.{Is, Not}
+use Rattle.numerals.specs.Front.{digitsOf, enoughDigits, front, numeralAt}
+use Rattle.numerals.specs.declared.reading.Number.the-variants.{Not}
 use Rattle.numerals.specs.declared.reading.Numeral.the-variants.{Ends, None}
 use Rattle.numerals.proofs.Fronts as Fronts
 use Rattle.numerals.proofs.Wholes.{digit-range}
-use Rattle.offsets.specs.Tokens.{Token, number, noNumber, isSeparator, said, closed, tokensFrom}
+use Rattle.offsets.specs.Tokens.{Token, number, noNumber, space, lineFeed, isSeparator, said, closed, tokensFrom}
 use Rattle.offsets.specs.Private.Steps.{tokensAt, endsHere, Begins, FirstByte}
 
 -- ---- separators, and the end
@@ -147,7 +146,7 @@ token-at text at h e = begun text at (getD text at 0) (drop (at + 1) text) (drop
 -- ---- what is read at its first byte
 pub digit-no-separator : (b : ℕ) → isDigit b ≡ true → isSeparator b ≡ false
 unfolding isSeparator
-digit-no-separator b e = let range = digit-range b e in rw (ne-eqb b 32 (λ z. omega arith), ne-eqb b 10 (λ z. omega arith))
+digit-no-separator b e = let range = digit-range b e in rw (ne-eqb b space (λ z. omega arith), ne-eqb b lineFeed (λ z. omega arith))
 
 clear-digits : (most : ℕ) (text : List ℕ) → Clear (digitsOf most text)
 unfolding digitsOf
@@ -162,7 +161,7 @@ minus-no-separator b e = rw (eqb-true b minus e)
 clear-front : (text : List ℕ) → Clear (front text)
 unfolding front
 clear-front [] = none
-clear-front (b ∷ text) = if-either Clear (eqb b minus) (λ e. more (minus-no-separator b e) (clear-digits 10 text)) (λ e. clear-digits 10 (b ∷ text))
+clear-front (b ∷ text) = if-either Clear (eqb b minus) (λ e. more (minus-no-separator b e) (clear-digits enoughDigits text)) (λ e. clear-digits enoughDigits (b ∷ text))
 
 one-kind : {X : Type 0} {b c : ℕ} → b ≡ c → isSeparator b ≡ true → isSeparator c ≡ false → X
 one-kind e s n = never (sym n ∙ sym (ap isSeparator e) ∙ s)

@@ -2,12 +2,12 @@
 use Prim.Native.Nat.{ℕ, zero, suc}
 use mathlib.Core.List.{List, [], _∷_, _++_}
 use lib.IntN.{ℤ, pos, natAbs}
-use lib.ListN.{getD}
+use lib.ListN.{length, getD}
 use Rattle.ranges.specs.Fields.{Range, particulars, halfBreadth, item, tank}
 use Rattle.ranges.specs.Outcome.{Outcome, answered, refused}
 use Rattle.ranges.specs.Refusals.{tokenAfterEnd}
 use Rattle.ranges.specs.Sizes.{pointsOf, mostItems, mostTanks}
-use Rattle.offsets.specs.Reading.{Reading, _>>=_, return, count, numbers}
+use Rattle.offsets.specs.Reading.{Reading, _>>=_, count, numbers}
 use Rattle.offsets.specs.Tokens.{Token, number, noNumber}
 
 -- the numbers of the four sections
@@ -41,7 +41,7 @@ module _ (textLength : ℕ) where
 
   unfoldable pub file : List Token → Outcome Contents
   file = do
-    five ← count textLength 5 5
+    five ← count textLength (length particulars) (length particulars)
     hull ← numbers textLength particulars
     halfBreadths ← section (points hull) (points hull) halfBreadth
     items ← section 0 mostItems item

@@ -1,5 +1,5 @@
 -- To read is to take tokens from the front and leave the others, or to refuse. "Left to right; one token is tried for 2, 3, 4."
-use Prim.Native.Nat.{ℕ, _+_}
+use Prim.Native.Nat.{ℕ}
 use mathlib.Core.List.{List, [], _∷_}
 use lib.IntN.{ℤ, natAbs}
 use Rattle.arithmetic.specs.Choice.{if_then_else_}

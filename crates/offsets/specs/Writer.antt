@@ -11,7 +11,7 @@ use Rattle.ranges.specs.Fields.{particulars, halfBreadth, item, tank}
 use Rattle.ranges.specs.Outcome.{Outcome, answered, refused}
 use Rattle.ranges.specs.Outside.{firstOutside, numbersOf}
 use Rattle.ranges.specs.Refusals.{outOfRange, wrongSize, roomTooShort, placeOfHalfBreadths, placeOfItems, placeOfTanks, halfBreadthTable, itemTable, tankTable}
-use Rattle.ranges.specs.Sizes.{pointsOf, wholeRecords, mostItems, mostTanks}
+use Rattle.ranges.specs.Sizes.{pointsOf, wholeRecords, itemWidth, tankWidth, mostItems, mostTanks}
 use Rattle.ranges.specs.declared.Particulars.{Particulars}
 use Rattle.offsets.specs.Written.{textOf}
 use Rattle.offsets.specs.declared.Written.{Written}
@@ -27,8 +27,8 @@ writerOf p halfBreadths items tanks room =
     let text = textOf p halfBreadths items tanks in
     if ltb badParticular (length particulars) then refused outOfRange badParticular
     else if not (eqb (length halfBreadths) (pointsOf (p .n) (p .m))) then refused wrongSize halfBreadthTable
-    else if not (wholeRecords (length item) mostItems (length items)) then refused wrongSize itemTable
-    else if not (wholeRecords (length tank) mostTanks (length tanks)) then refused wrongSize tankTable
+    else if not (wholeRecords itemWidth mostItems (length items)) then refused wrongSize itemTable
+    else if not (wholeRecords tankWidth mostTanks (length tanks)) then refused wrongSize tankTable
     else if ltb badHalfBreadth (length halfBreadths) then refused outOfRange (placeOfHalfBreadths + badHalfBreadth)
     else if ltb badItem (length items) then refused outOfRange (placeOfItems + badItem)
     else if ltb badTank (length tanks) then refused outOfRange (placeOfTanks + badTank)

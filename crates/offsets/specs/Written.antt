@@ -5,9 +5,9 @@ use mathlib.Core.List.{List, [], _∷_, _++_, map}
 use lib.IntN.{ℤ, pos}
 use lib.ListN.{length, take, drop}
 use Rattle.numerals.specs.Printed.{printed}
-use Rattle.ranges.specs.Fields.{item, tank}
+use Rattle.ranges.specs.Fields.{particulars}
 use Rattle.ranges.specs.Outside.{numbersOf}
-use Rattle.ranges.specs.Sizes.{pointsOf}
+use Rattle.ranges.specs.Sizes.{pointsOf, itemWidth, tankWidth}
 use Rattle.ranges.specs.declared.Particulars.{Particulars}
 use Rattle.offsets.specs.Tokens.{space, lineFeed}
 
@@ -33,9 +33,9 @@ sectionText width table = counted (length table / width) ++ lines width (length 
 -- the whole text
 unfoldable pub textOf : Particulars → List ℕ → List ℤ → List ℤ → List ℕ
 textOf p halfBreadths items tanks =
-    counted 5
+    counted (length particulars)
     ++ line (numbersOf p)
     ++ counted (pointsOf (p .n) (p .m))
     ++ lines (p .m + 1) (p .n + 1) (map pos halfBreadths)
-    ++ sectionText (length item) items
-    ++ sectionText (length tank) tanks
+    ++ sectionText itemWidth items
+    ++ sectionText tankWidth tanks

@@ -4,7 +4,7 @@ ghost use Prim.Native.Nat.{_+_, _<_, _≤_};
 ghost use lib.ListN.{length};
 ghost use Rattle.ranges.specs.Refusals.{outOfRange};
 ghost use Rattle.offsets.specs.Reading.{one, count};
-ghost use Rattle.ranges.specs.Fields.{_to_, within, rangeOf};
+ghost use Rattle.ranges.specs.Fields.{_to_, within, rangeOf, fields};
 ghost use Rattle.offsets.specs.Private.Steps.{tokensAt, onOne, onStep, countOf, Counts, ReadsFrom, ReadsAfter, Finishes};
 use crate::tokens;
 use crate::tokens::Found;
@@ -114,7 +114,7 @@ pub(crate) fn numbers_after(
     n: usize,
     table: &mut [i64],
 ) -> Step
-    requires { ⌜ (0 < width) × (first + width ≤ 18) × (n ≤ length (now table)) ⌝ }
+    requires { ⌜ (0 < width) × (first + width ≤ length fields) × (n ≤ length (now table)) ⌝ }
     ensures { λ r. ⌜ ReadsAfter (now (text .entry)) step first width n (now (table .exit)) r ⌝ }
 {
     match step {
@@ -132,7 +132,7 @@ fn numbers_from(
     n: usize,
     table: &mut [i64],
 ) -> Step
-    requires { ⌜ (0 < width) × (first + width ≤ 18) × (n ≤ length (now table)) ⌝ }
+    requires { ⌜ (0 < width) × (first + width ≤ length fields) × (n ≤ length (now table)) ⌝ }
     ensures { λ r. ⌜ ReadsFrom (now (text .entry)) from first width n (now (table .exit)) r ⌝ }
 {
     let mut next = from;

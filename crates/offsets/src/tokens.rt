@@ -1,7 +1,6 @@
 // Tokens by place. Each byte of a text is looked at once, but for a separator after a token.
 ghost use mathlib.Core.Path.{_≡_};
-ghost use Prim.Native.Nat.{_≤_, _<_};
-ghost use lib.ListN.{length};
+ghost use Prim.Native.Nat.{_<_};
 ghost use Rattle.offsets.specs.Tokens.{isSeparator};
 ghost use Rattle.offsets.specs.Private.Steps.{Finds, tokensAt, endsHere, FirstByte};
 use numerals::Numeral;

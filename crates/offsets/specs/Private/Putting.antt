@@ -9,7 +9,7 @@ use lib.Seq.{sets}
 use Rattle.ranges.specs.Fields.{particulars, halfBreadth, item, tank}
 use Rattle.ranges.specs.Private.InRange.{HalfBreadthsInRange}
 use Rattle.ranges.specs.Outside.{firstOutside, numbersOf}
-use Rattle.ranges.specs.Sizes.{pointsOf, roomForHalfBreadths, wholeRecords, mostItems, mostTanks}
+use Rattle.ranges.specs.Sizes.{pointsOf, roomForHalfBreadths, wholeRecords, itemWidth, tankWidth, mostItems, mostTanks}
 use Rattle.ranges.specs.declared.Particulars.{Particulars}
 use Rattle.offsets.specs.Written.{line, lines, counted, sectionText}
 
@@ -17,8 +17,8 @@ use Rattle.offsets.specs.Written.{line, lines, counted, sectionText}
 pub record RightSizes (p : Particulars) (halfBreadths : List ℕ) (items tanks : List ℤ) : Type 0 where
   pub particulars-in : length particulars ≤ firstOutside particulars (numbersOf p)
   pub half-breadth-size : length halfBreadths ≡ pointsOf (p .n) (p .m)
-  pub item-size : wholeRecords (length item) mostItems (length items) ≡ true
-  pub tank-size : wholeRecords (length tank) mostTanks (length tanks) ≡ true
+  pub item-size : wholeRecords itemWidth mostItems (length items) ≡ true
+  pub tank-size : wholeRecords tankWidth mostTanks (length tanks) ≡ true
 
 -- and the next: half-breadths, items, tanks
 pub record Passes (p : Particulars) (halfBreadths : List ℕ) (items tanks : List ℤ) : Type 0 where
@@ -50,7 +50,7 @@ pub record RoomForSection (width : ℕ) (table : List ℤ) (room : List ℕ) (at
 
 -- the particulars' section
 abbrev pub hullText : Particulars → List ℕ
-hullText p = counted 5 ++ line (numbersOf p)
+hullText p = counted (length particulars) ++ line (numbersOf p)
 
 -- the half-breadths' section, a line for each station
 abbrev pub stationsText : ℕ → ℕ → List ℕ → List ℕ

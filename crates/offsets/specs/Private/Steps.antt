@@ -7,11 +7,11 @@ use lib.Dec.{ltb}
 use lib.IntN.{ℤ, pos, natAbs}
 use lib.ListN.{length, take, drop, getD}
 use Rattle.arithmetic.specs.Choice.{if_then_else_}
-use Rattle.ranges.specs.Fields.{Range, rangeOf, within}
+use Rattle.ranges.specs.Fields.{Range, rangeOf, within, particulars, halfBreadth}
 use Rattle.ranges.specs.Outcome.{Outcome, answered, refused, andThen}
-use Rattle.ranges.specs.Sizes.{longestFile, roomForHalfBreadths, roomForItems, roomForTanks, mostItems, mostTanks}
+use Rattle.ranges.specs.Sizes.{longestFile, roomForHalfBreadths, roomForItems, roomForTanks, itemWidth, tankWidth, mostItems, mostTanks}
 use Rattle.offsets.specs.File.{Contents, points, complete, file}
-use Rattle.offsets.specs.Reading.{one, numbers, count}
+use Rattle.offsets.specs.Reading.{numbers, count}
 use Rattle.offsets.specs.Tokens.{Token, number, noNumber, isSeparator, tokensFrom, tokens}
 use Rattle.offsets.specs.declared.tokens.Found.{Found}
 use Rattle.offsets.specs.declared.tokens.Found.the-variants.{End, Number, NoNumber}
@@ -59,6 +59,16 @@ module _ (text : List ℕ) where
   onEnd c (S.At k next) = answered c
   onEnd c (S.Refused r) = refused (r .number) (r .place)
 
+-- the numbers of the first half-breadth's, the first item's and the first tank's field; the particulars' begin at 0
+abbrev pub halfBreadthField : ℕ
+halfBreadthField = length particulars
+
+abbrev pub itemField : ℕ
+itemField = halfBreadthField + length halfBreadth
+
+abbrev pub tankField : ℕ
+tankField = itemField + itemWidth
+
 -- the ranges of n numbers of records whose fields are `width` from number `first` on; the first of them is number i of its table
 unfoldable pub rangesFrom : ℕ → ℕ → ℕ → ℕ → List Range
 rangesFrom first width zero i = []
@@ -98,13 +108,17 @@ pointsIn hull =
     if within (rangeOf 0) (pos (natAbs (getD hull 0 (pos 0)))) then (if within (rangeOf 1) (pos (natAbs (getD hull 1 (pos 0)))) then points hull else 0)
     else 0
 
+-- the particulars in front of a table
+abbrev pub hullIn : List ℤ → List ℤ
+hullIn table = take (length particulars) table
+
 -- a whole file was read into the front of four tables
 unfoldable pub onParsed : List ℤ → List ℤ → List ℤ → List ℤ → Parsed → Outcome Contents
 onParsed hull halfBreadths items tanks (P.Whole count i t) = answered (record {
-  hull = take 5 hull;
+  hull = hullIn hull;
   halfBreadths = take count halfBreadths;
-  items = take (4 * i) items;
-  tanks = take (8 * t) tanks;
+  items = take (itemWidth * i) items;
+  tanks = take (tankWidth * t) tanks;
 })
 onParsed hull halfBreadths items tanks (P.Refused r) = refused (r .number) (r .place)
 
@@ -119,7 +133,7 @@ pub record Parses (text : List ℕ) (hull halfBreadths items tanks : List ℤ) (
 
 -- room for what a file can hold
 pub record Rooms (hull halfBreadths items tanks : List ℤ) : Type 0 where
-  pub hull-room : 5 ≤ length hull
+  pub hull-room : length particulars ≤ length hull
   pub half-breadth-room : roomForHalfBreadths ≤ length halfBreadths
   pub item-room : roomForItems ≤ length items
   pub tank-room : roomForTanks ≤ length tanks

@@ -1,11 +1,11 @@
 -- The front is filled so far, and the rest is as it was. Assumes nothing.
 use Prim.Native.Nat.{_-_, _≤_}
-use mathlib.Core.Path.{_≡_, refl, sym, ap, _∙_}
-use mathlib.Core.List.{List, _++_, map, map-id}
+use mathlib.Core.Path.{_≡_, refl, _∙_}
+use mathlib.Core.List.{_++_, map, map-id}
 use native.Mathlib.Omega.{arith}
-use borrow.Author.Needs.{needs, sfits-of}
+use borrow.Author.Needs.{sfits-of}
 use lib.IntN.{ℤ, pos}
-use lib.ListN.{length, take, drop, getD, set, length-set}
+use lib.ListN.{length, take, drop, getD, length-set}
 use mir.Syntax.{w64}
 use Rattle.arithmetic.proofs.Crossing.{back-is}
 use Rattle.offsets.proofs.Copies.{copied-next}

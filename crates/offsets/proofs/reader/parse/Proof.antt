@@ -1,9 +1,10 @@
 -- The steps of the reading are those that the file's tokens ask, one after another. Assumes nothing.
-use Prim.Native.Nat.{_*_, _≤_}
+use Prim.Native.Nat.{_*_}
 use mathlib.Core.Path.{_≡_, ap}
 use lib.ListN.{length}
 use native.Mathlib.Omega.{arith}
 use borrow.Author.Needs.{needs}
+use Rattle.ranges.specs.Sizes.{itemWidth, tankWidth}
 use Rattle.offsets.proofs.Chain.{Steps, points-room, parses-refused, parses-whole}
 use Rattle.offsets.proofs.reader.parse.Statement.{statement}
 use Rattle.offsets.proofs.reader.parse.Tie as tie
@@ -34,8 +35,8 @@ steps :
     (n4 .numbers-after4 .result)
     (c .finish .result)
     (n2 .before .before .count-of .result)
-    (4 * n3 .before .before .count-of2 .result)
-    (8 * n4 .before .before .count-of3 .result)
+    (itemWidth * n3 .before .before .count-of2 .result)
+    (tankWidth * n4 .before .before .count-of3 .result)
 steps c =
     let n4 = c .before .before in
     let k4 = n4 .before .before .before in
@@ -53,10 +54,10 @@ steps c =
       points-are = n2 .before .before .count-of .ensures;
       count-aboard = k3 .count-after3 .ensures;
       aboard-numbers = n3 .numbers-after3 .ensures;
-      items-are = ap (λ k. 4 * k) (n3 .before .before .count-of2 .ensures);
+      items-are = ap (λ k. itemWidth * k) (n3 .before .before .count-of2 .ensures);
       count-held = k4 .count-after4 .ensures;
       held-numbers = n4 .numbers-after4 .ensures;
-      tanks-are = ap (λ k. 8 * k) (n4 .before .before .count-of3 .ensures);
+      tanks-are = ap (λ k. tankWidth * k) (n4 .before .before .count-of3 .ensures);
       finished = c .finish .ensures;
     }
 

@@ -1,5 +1,6 @@
 -- The file is read into room of the reader's own, and what it says is copied. Assumes nothing.
 use Rattle.offsets.specs.Private.Steps.{Rooms}
+use Rattle.ranges.specs.Sizes.{roomForHalfBreadths, mostItems, mostTanks}
 use Prim.Native.Nat.{_≤_}
 use native.Mathlib.Omega.{arith}
 use Rattle.offsets.proofs.Answers.{file-refused, sheet}
@@ -18,7 +19,7 @@ rooms c =
     }
 
 -- a whole file fits it
-fits : (c : tie.After-points) → (c .points .given .0 .0 ≤ 861) × (c .points .given .0 .1 .0 ≤ 32) × (c .points .given .0 .1 .1 .0 ≤ 16)
+fits : (c : tie.After-points) → (c .points .given .0 .0 ≤ roomForHalfBreadths) × (c .points .given .0 .1 .0 ≤ mostItems) × (c .points .given .0 .1 .1 .0 ≤ mostTanks)
 fits c = rw (c .points .given .1) at (c .before .before .before .before .before .before .parse .ensures .fits)
 
 slice-aggregate-parse : tie.Need-slice-aggregate-parse

@@ -1,12 +1,11 @@
 -- The token that is found tells what is read. Assumes nothing.
-use mathlib.Core.Path.{sym, ap, _∙_}
+use mathlib.Core.Path.{sym, _∙_}
 use borrow.Author.Needs.{needs, sfits-of}
 use lib.IntN.{natAbs}
 use mir.Syntax.{w64}
-use Rattle.arithmetic.proofs.Crossing.{back-is, heard}
+use Rattle.arithmetic.proofs.Crossing.{heard}
 use Rattle.ranges.specs.Fields.{_to_, within}
-use Rattle.ranges.specs.Outcome.{answered}
-use Rattle.offsets.specs.Private.Steps.{onStep, tokensAt}
+use Rattle.offsets.specs.Private.Steps.{onStep}
 use Rattle.offsets.proofs.Taking.{count-end, count-none, count-in, count-out}
 use Rattle.offsets.proofs.reading.count_at.Statement.{statement}
 use Rattle.offsets.proofs.reading.count_at.Tie as tie

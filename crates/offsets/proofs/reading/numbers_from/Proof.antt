@@ -1,10 +1,10 @@
 -- What is read and what is still to be read are the whole run, and the field goes round. Assumes nothing.
-use Prim.Native.Nat.{_+_, _-_, _%_, _≤_, _<_}
+use Prim.Native.Nat.{_-_, _%_, _≤_, _<_}
 use mathlib.Core.Path.{_≡_, refl, sym, subst, _∙_}
 use native.Mathlib.Nat.{zero-mod}
 use native.Mathlib.Omega.{arith}
 use borrow.Author.Needs.{needs, sfits-of}
-use lib.ListN.{length, set, length-set}
+use lib.ListN.{length, length-set}
 use mir.Syntax.{w64}
 use Rattle.arithmetic.proofs.Crossing.{back-is}
 use Rattle.ranges.proofs.Outside.{field-next, field-after-lt}

@@ -1,14 +1,15 @@
 -- Each refusal is the definition's, since the tests come in its order. Assumes nothing.
-use Prim.Native.Nat.{_+_, _≤_}
+use Prim.Native.Nat.{_≤_}
 use mathlib.Core.Path.{sym, _∙_}
 use native.Mathlib.Omega.{arith}
 use borrow.Author.Tests.{not-true, not-false}
 use borrow.Author.Needs.{needs}
 use lib.ListN.{length}
-use Rattle.arithmetic.proofs.Products.{product-fits}
+use mir.Facts.{fits-le, fits-lit}
 use Rattle.ranges.specs.Fields.{particulars}
 use Rattle.ranges.specs.Outside.{firstOutside, numbersOf}
 use Rattle.ranges.proofs.Facts.{particulars-in-range}
+use Rattle.offsets.proofs.Sound.{points-most}
 use Rattle.offsets.proofs.Tried.{refuses-particular, refuses-half-breadth-size, refuses-item-size, refuses-tank-size}
 use Rattle.offsets.proofs.WholeText.{writes-refused}
 use Rattle.offsets.proofs.writer.write_file.Statement.{statement}
@@ -35,10 +36,7 @@ add-if2-2 c = let hull = particulars-in-range _ (particulars-in (c .before .befo
 mul-if2 : tie.Need-mul-if2
 mul-if2 c =
     let hull = particulars-in-range _ (particulars-in (c .before .before)) in
-    let p = c .before .before .before .before .before .before .args .p in
-    let long : p .n + 1 ≤ 41 = omega arith in
-    let high : p .m + 1 ≤ 21 = omega arith in
-    product-fits long high tt
+    fits-le (points-most (hull .n-most) (hull .m-most)) (fits-lit tt)
 
 refused-requires-2 : tie.Need-refused-requires-2
 refused-requires-2 c κs = search needs
