@@ -2,7 +2,7 @@
 --     long-said        a text that is too long has the one E line
 --     cut-alike        a text cut after so many bytes has the same sheet as the whole
 -- Assumes nothing.
-use Prim.Native.Nat.{ℕ, suc, _≤_, _<_}
+use Prim.Native.Nat.{ℕ, suc, _<_}
 use mathlib.Core.Path.{_≡_, refl, ap, sym, _∙_}
 use mathlib.Core.Bool.{Bool, true, false}
 use mathlib.Core.List.{List}
@@ -14,7 +14,7 @@ use lib.Seq.{take-all, length-take-le}
 use Rattle.arithmetic.proofs.Choice.{chosen}
 use Rattle.offsets.specs.Reader.{readerOf}
 use Rattle.ranges.specs.Refusals.{fileTooLong}
-use Rattle.ranges.specs.Sizes.{longestFile, roomForHalfBreadths, roomForItems, roomForTanks}
+use Rattle.ranges.specs.Sizes.{longestFile}
 use Rattle.report.specs.Lines.{refusalLine}
 use Rattle.report.specs.Sheet.{fileSaid, sheetOf}
 

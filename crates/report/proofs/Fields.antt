@@ -21,8 +21,10 @@ use Rattle.arithmetic.proofs.Parts.{take-step, drop-step}
 use Rattle.hydrostatics.specs.Row.{numbersOf}
 use Rattle.hydrostatics.specs.Usable.{rowIn}
 use Rattle.loading.specs.declared.Condition.{Condition}
-use Rattle.report.specs.Lines.{field, fields, lineOf, rowLine, word, mark, conditionLine}
-use Rattle.report.specs.Private.Putting.{Ready, Puts, mostConditionLine, mostField, mostRowLine}
+use Rattle.offsets.specs.Tokens.{space, lineFeed}
+use Rattle.ranges.specs.Sizes.{rowWidth}
+use Rattle.report.specs.Lines.{field, fields, conditionLetter, lineOf, rowLine, word, mark, conditionLine}
+use Rattle.report.specs.Private.Putting.{Ready, Puts, mostField, mostWord, mostRowLine, mostBeforeMark, mostConditionLine}
 use Rattle.report.specs.Sheet.{rowLines}
 use Rattle.report.proofs.Pieces.{puts-none, puts-le, puts-both, ready-next}
 
@@ -62,7 +64,7 @@ pub wholes-more :
     → Puts mostField (field (pos (getD numbers i 0))) mid r end last
     → Puts (mostField * (i + 1)) (fields (map pos (take (i + 1) numbers))) was at end last
 wholes-more numbers i h ready p q =
-    let next : 22 * (i + 1) ≡ 22 * i + 22 = omega arith in
+    let next : mostField * (i + 1) ≡ mostField * i + mostField = omega arith in
     rw (fields-step numbers i h, next) (puts-both p (omega (arith, ready .room)) q)
 
 rowLines-from : (rows : List ℕ) (from count : ℕ) → rowLines rows from (suc count) ≡ rowLines rows from count ++ rowLine (rowIn rows (from + count))
@@ -90,17 +92,17 @@ pub rows-more :
     → Puts mostRowLine (rowLine (rowIn rows i)) mid r end last
     → Puts (mostRowLine * (i + 1)) (rowLines rows 0 (i + 1)) was 0 end last
 rows-more rows count i h ready p q =
-    let next : 156 * (i + 1) ≡ 156 * i + 156 = omega arith in
+    let next : mostRowLine * (i + 1) ≡ mostRowLine * i + mostRowLine = omega arith in
     rw (rowLines-more rows i, next) (puts-both p (omega (arith, ready .room)) q)
 
 pub mark-is : (t : Bool) → mark t ≡ boolByte t
 mark-is true = refl
 mark-is false = refl
 
-pub seven-of-row : (rows : List ℕ) (r : ℕ) → 7 * r + 7 ≤ length rows → take 7 (drop (7 * r) rows) ≡ numbersOf (rowIn rows r)
+pub seven-of-row : (rows : List ℕ) (r : ℕ) → rowWidth * r + rowWidth ≤ length rows → take rowWidth (drop (rowWidth * r) rows) ≡ numbersOf (rowIn rows r)
 unfolding rowIn
 seven-of-row rows r h =
-    let a = 7 * r in
+    let a = rowWidth * r in
     rw (drop-step rows a 0 (omega arith), drop-step rows (a + 1) 0 (omega arith), add-assoc, drop-step rows (a + 2) 0 (omega arith), add-assoc, drop-step rows (a + 3) 0 (omega arith), add-assoc, drop-step rows (a + 4) 0 (omega arith), add-assoc, drop-step rows (a + 5) 0 (omega arith), add-assoc, drop-step rows (a + 6) 0 (omega arith))
 
 -- ---- whole lines
@@ -111,7 +113,7 @@ pub puts-line :
     → most + 2 ≤ all
     → Puts 1 (letter ∷ []) was at mid start
     → Puts most said mid start end next
-    → Puts 1 (10 ∷ []) end next after last
+    → Puts 1 (lineFeed ∷ []) end next after last
     → Puts all (lineOf letter said) was at after last
 puts-line {all} {most} ready h p q e =
     puts-le (puts-both (puts-both p (omega (arith, ready .room)) q) (omega (arith, ready .room)) e) all (omega arith)
@@ -119,39 +121,39 @@ puts-line {all} {most} ready h p q e =
 -- a row's part of the table, as it is lent
 pub row-fields :
     (rows : List ℕ) (r : ℕ) {was after : List ℕ} {at next : ℕ}
-    → 7 * r + 7 ≤ length rows
-    → Puts (mostField * length (take (7 * r + 7 - 7 * r) (drop (7 * r) rows))) (fields (map pos (take (7 * r + 7 - 7 * r) (drop (7 * r) rows)))) was at after next
-    → Puts 154 (fields (map pos (numbersOf (rowIn rows r)))) was at after next
+    → rowWidth * r + rowWidth ≤ length rows
+    → Puts (mostField * length (take (rowWidth * r + rowWidth - rowWidth * r) (drop (rowWidth * r) rows))) (fields (map pos (take (rowWidth * r + rowWidth - rowWidth * r) (drop (rowWidth * r) rows)))) was at after next
+    → Puts (rowWidth * mostField) (fields (map pos (numbersOf (rowIn rows r)))) was at after next
 row-fields rows r h p =
-    let count : 7 * r + 7 - 7 * r ≡ 7 = omega arith in
+    let count : rowWidth * r + rowWidth - rowWidth * r ≡ rowWidth = omega arith in
     rw (count, seven-of-row rows r h) at p
 
 module _ {was t1 t2 t3 t4 t5 t6 : List ℕ} {at n1 n2 n3 n4 n5 n6 : ℕ} {w1 w2 w3 w4 w5 w6 : List ℕ}
     (ready : Ready mostConditionLine was at)
     (letter : Puts 1 w1 was at t1 n1)
-    (six : Puts 132 w2 t1 n1 t2 n2)
+    (six : Puts (6 * mostField) w2 t1 n1 t2 n2)
     (gm : Puts mostField w3 t2 n2 t3 n3)
     (moment : Puts mostField w4 t3 n3 t4 n4)
     (gap : Puts 1 w5 t4 n4 t5 n5)
-    (outcome : Puts 8 w6 t5 n5 t6 n6) where
+    (outcome : Puts mostWord w6 t5 n5 t6 n6) where
   -- what stands before the mark
-  before-mark : Puts 186 (((((w1 ++ w2) ++ w3) ++ w4) ++ w5) ++ w6) was at t6 n6
+  before-mark : Puts mostBeforeMark (((((w1 ++ w2) ++ w3) ++ w4) ++ w5) ++ w6) was at t6 n6
   before-mark =
-      let room : at + 209 ≤ length was = ready .room in
+      let room : at + mostConditionLine ≤ length was = ready .room in
       puts-both (puts-both (puts-both (puts-both (puts-both letter (omega arith) six) (omega arith) gm) (omega arith) moment) (omega arith) gap) (omega arith) outcome
 
-  pub room-for-mark : Ready 23 t6 n6
+  pub room-for-mark : Ready (mostField + 1) t6 n6
   room-for-mark = ready-next before-mark ready (omega arith)
 
   module _ {t7 t8 : List ℕ} {n7 n8 : ℕ} {w7 w8 : List ℕ} (mark : Puts mostField w7 t6 n6 t7 n7) (feed : Puts 1 w8 t7 n7 t8 n8) where
     pub puts-eight : Puts mostConditionLine (((((((w1 ++ w2) ++ w3) ++ w4) ++ w5) ++ w6) ++ w7) ++ w8) was at t8 n8
     puts-eight =
-        let room : at + 209 ≤ length was = ready .room in
+        let room : at + mostConditionLine ≤ length was = ready .room in
         puts-both (puts-both before-mark (omega arith) mark) (omega arith) feed
 
 regroup :
     (six gm moment outcome passes : List ℕ)
-    → (((((((67 ∷ []) ++ six) ++ gm) ++ moment) ++ (32 ∷ [])) ++ outcome) ++ passes) ++ (10 ∷ []) ≡ lineOf 67 (((six ++ (gm ++ moment)) ++ (32 ∷ outcome)) ++ passes)
+    → (((((((conditionLetter ∷ []) ++ six) ++ gm) ++ moment) ++ (space ∷ [])) ++ outcome) ++ passes) ++ (lineFeed ∷ []) ≡ lineOf conditionLetter (((six ++ (gm ++ moment)) ++ (space ∷ outcome)) ++ passes)
 regroup six gm moment outcome passes = simp append-assoc
 
 fields-two : (v w : ℤ) → fields (v ∷ w ∷ []) ≡ field v ++ field w
@@ -163,7 +165,7 @@ module _ (c : Condition) where
   wholes = pos (c .weight) ∷ pos (c .draft) ∷ pos (c .km) ∷ pos (c .lcg) ∷ pos (c .«vertical_moment») ∷ pos (c .«free_surface») ∷ []
 
   pub condition-line :
-      (((((((67 ∷ []) ++ fields wholes) ++ field (c .gm)) ++ field (c .«transverse_moment»)) ++ (32 ∷ [])) ++ word (c .heel)) ++ fields (pos (boolByte (c .passes)) ∷ [])) ++ (10 ∷ [])
+      (((((((conditionLetter ∷ []) ++ fields wholes) ++ field (c .gm)) ++ field (c .«transverse_moment»)) ++ (space ∷ [])) ++ word (c .heel)) ++ fields (pos (boolByte (c .passes)) ∷ [])) ++ (lineFeed ∷ [])
       ≡ conditionLine c
   unfolding conditionLine
   condition-line =
@@ -171,5 +173,5 @@ module _ (c : Condition) where
       let eight : fields (wholes ++ (c .gm ∷ c .«transverse_moment» ∷ [])) ≡ fields wholes ++ (field (c .gm) ++ field (c .«transverse_moment»)) =
       fields-append wholes (c .gm ∷ c .«transverse_moment» ∷ []) ∙ ap (λ l. fields wholes ++ l) (fields-two (c .gm) (c .«transverse_moment»)) in
       regroup (fields wholes) (field (c .gm)) (field (c .«transverse_moment»)) (word (c .heel)) (fields (pos (boolByte (c .passes)) ∷ []))
-      ∙ ap (λ l. lineOf 67 (((fields wholes ++ (field (c .gm) ++ field (c .«transverse_moment»))) ++ (32 ∷ word (c .heel))) ++ l)) marked
-      ∙ ap (λ l. lineOf 67 ((l ++ (32 ∷ word (c .heel))) ++ field (pos (mark (c .passes))))) (sym eight)
+      ∙ ap (λ l. lineOf conditionLetter (((fields wholes ++ (field (c .gm) ++ field (c .«transverse_moment»))) ++ (space ∷ word (c .heel))) ++ l)) marked
+      ∙ ap (λ l. lineOf conditionLetter ((l ++ (space ∷ word (c .heel))) ++ field (pos (mark (c .passes))))) (sym eight)

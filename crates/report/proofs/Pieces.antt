@@ -24,9 +24,11 @@ use Rattle.arithmetic.proofs.Crossing.{back-is, turn, cast-defined}
 use Rattle.arithmetic.proofs.Parts.{part-filled, part-end}
 use Rattle.arithmetic.proofs.Room.{laid-fits}
 use Rattle.numerals.specs.Printed.{printed, Prints}
+use Rattle.numerals.specs.Private.Sign.{mostPrintedDigits}
 use Rattle.numerals.proofs.Printed.{length-of-printed}
+use Rattle.offsets.specs.Tokens.{space}
 use Rattle.report.specs.Lines.{field}
-use Rattle.report.specs.Private.Putting.{Ready, Puts, mostField}
+use Rattle.report.specs.Private.Putting.{Ready, Puts, mostPrinted, mostField}
 
 -- a list with a part of it, from a place to its end, as it came back
 abbrev pub withPart : ℕ → List ℕ → List ℕ → List ℕ
@@ -93,28 +95,28 @@ module _ {most : ℕ} {said was : List ℕ} {at : ℕ} {after : List ℕ} {next 
 pub ready-next : {all most more : ℕ} {said was : List ℕ} {at : ℕ} {after : List ℕ} {next : ℕ} → Puts most said was at after next → Ready all was at → most + more ≤ all → Ready more after next
 ready-next p r h = record { room = omega (arith, puts-length p (omega (arith, r .room)), p .next-is, p .few, r .room) }
 
-pub signed-small : {v : ℤ} → SFits w64 v → natAbs v < 10 ^ 20
+pub signed-small : {v : ℤ} → SFits w64 v → natAbs v < 10 ^ mostPrintedDigits
 signed-small {v} fits = go (isNegative v) refl
   where
-    go : (t : Bool) → isNegative v ≡ t → natAbs v < 10 ^ 20
+    go : (t : Bool) → isNegative v ≡ t → natAbs v < 10 ^ mostPrintedDigits
     go true e = let turned = turn v fits e in omega (arith, turned .magnitude-is, turned .small)
     go false e = let held : Fits w64 (natAbs v) = rw (back-is fits) at (cast-defined fits e .1) in omega arith
 
-pub printed-few : (v : ℤ) → natAbs v < 10 ^ 20 → length (printed v) ≤ 21
-printed-few v h = length-of-printed v 20 (omega arith) h
+pub printed-few : (v : ℤ) → natAbs v < 10 ^ mostPrintedDigits → length (printed v) ≤ mostPrinted
+printed-few v h = length-of-printed v mostPrintedDigits (omega arith) h
 
 pub puts-printed :
     {v : ℤ} {was mid back : List ℕ} {at start r : ℕ}
-    → natAbs v < 10 ^ 20
+    → natAbs v < 10 ^ mostPrintedDigits
     → Ready mostField was at
-    → Puts 1 (32 ∷ []) was at mid start
+    → Puts 1 (space ∷ []) was at mid start
     → Prints v (partFrom start mid) back r
     → Puts mostField (field v) was at (withPart start mid back) (start + r)
 puts-printed {v} {was} {mid} {back} {at} {start} {r} small ready p said =
     let few = printed-few v small in
-    let next : Ready 21 mid start = ready-next p ready (omega arith) in
+    let next : Ready mostPrinted mid start = ready-next p ready (omega arith) in
     let part : length (partFrom start mid) ≡ length mid - start = ap length (part-end start mid) ∙ length-drop start mid in
     let fits : length (printed v) ≤ length (partFrom start mid) = omega (arith, next .room) in
-    let number : Puts 21 (printed v) mid start (withPart start mid back) (start + r) =
-    rw (said .length-is) (puts-part 21 (printed v) mid back start few (ready-le few next) (said .left ∙ laid-fits (printed v) (partFrom start mid) fits)) in
+    let number : Puts mostPrinted (printed v) mid start (withPart start mid back) (start + r) =
+    rw (said .length-is) (puts-part mostPrinted (printed v) mid back start few (ready-le few next) (said .left ∙ laid-fits (printed v) (partFrom start mid) fits)) in
     puts-both p (omega (arith, ready .room)) number

@@ -38,11 +38,12 @@ use Rattle.offsets.specs.Reader.{Reads, readerOf, summaryOf, summarised}
 use Rattle.offsets.specs.declared.Read.{Read as ReadAnswer}
 use Rattle.offsets.specs.declared.Read.the-variants as ReadAnswer
 use Rattle.offsets.specs.declared.Summary.{Summary}
-use Rattle.offsets.proofs.Calls.{contents-read}
+use Rattle.offsets.proofs.Calls.{halfBreadthsRead, itemsRead, tanksRead, contents-read}
 use Rattle.offsets.proofs.Sound.{hull-most, points-le}
+use Rattle.ranges.specs.Fields.{most, rangeOf}
 use Rattle.ranges.specs.Outcome.{Outcome, answered, refused}
 use Rattle.ranges.specs.Refusals.{roomTooShort}
-use Rattle.ranges.specs.Sizes.{roomForHalfBreadths, roomForItems, roomForTanks, roomForRows}
+use Rattle.ranges.specs.Sizes.{pointsOf, rowsOver, rowWidth, mostItems, mostTanks, roomForHalfBreadths, roomForItems, roomForTanks, roomForRows}
 use Rattle.ranges.specs.declared.Particulars.{Particulars}
 use Rattle.ranges.specs.declared.Refusal.{Refusal}
 use Rattle.ranges.proofs.Outcomes.{refused-not, answer-same, not-refused}
@@ -77,8 +78,8 @@ module _ (rows : List ℕ) (count : ℕ) (items tanks : List ℤ) {was mid end :
 -- ---- the rows
 -- so many whole rows stand in front of a table
 pub record Made (table : List ℕ) (p : Particulars) (after : List ℕ) (count : ℕ) : Type 0 where
-  pub is : rowsOf table p roomForRows ≡ answered (take (7 * count) after)
-  pub whole : WholeRows (take (7 * count) after) count
+  pub is : rowsOf table p roomForRows ≡ answered (take (rowWidth * count) after)
+  pub whole : WholeRows (take (rowWidth * count) after) count
 
 module _ {table : List ℕ} {p : Particulars} {rows after : List ℕ} {answer : RowsAnswer} (long : length rows ≡ roomForRows) (makes : MakesRows table p rows after answer) where
   pub hull-refused : (items tanks : List ℤ) {f : Refusal} {was end : List ℕ} {last : ℕ} → answer ≡ RowsAnswer.Refused f → Puts mostRefusalLine (refusalLine (f .number) (f .place)) was 0 end last → Puts longestSheet (rowsSaid items tanks (rowsOf table p roomForRows)) was 0 end last
@@ -91,20 +92,20 @@ module _ {table : List ℕ} {p : Particulars} {rows after : List ℕ} {answer : 
   unfolding tableAfter
   made-rows {count} e =
       counted (rowsOf table p (length rows)) (sym (ap Rows.paper e) ∙ makes .answer-is) (λ numbers so count-is.
-      let good : Served numbers (p .m - 1) = served table p (length rows) so in
-      let same : count ≡ p .m - 1 = count-is ∙ ap (λ n. n / 7) (good .long) ∙ omega arith in
-      let size : length numbers ≡ 7 * count = good .long ∙ ap (λ n. 7 * n) (sym same) in
-      let front : take (7 * count) after ≡ numbers =
-      ap (take (7 * count)) (makes .left ∙ ap (λ o. tableAfter o rows) so) ∙ take-at numbers (drop (length numbers) rows) (7 * count) size in
+      let good : Served numbers (rowsOver (p .m)) = served table p (length rows) so in
+      let same : count ≡ rowsOver (p .m) = count-is ∙ ap (λ n. n / rowWidth) (good .long) ∙ omega arith in
+      let size : length numbers ≡ rowWidth * count = good .long ∙ ap (λ n. rowWidth * n) (sym same) in
+      let front : take (rowWidth * count) after ≡ numbers =
+      ap (take (rowWidth * count)) (makes .left ∙ ap (λ o. tableAfter o rows) so) ∙ take-at numbers (drop (length numbers) rows) (rowWidth * count) size in
       record {
         is = ap (rowsOf table p) (sym long) ∙ so ∙ ap answered (sym front);
         whole = record { whole = ap length front ∙ size; most = omega (arith, good .most, same) };
       })
 
-  pub hull-made : (items tanks : List ℤ) {count : ℕ} {was end : List ℕ} {last : ℕ} → Made table p after count → Puts longestSheet (rowLines (take (7 * count) after) 0 count ++ conditionSaid (conditionOf items tanks (take (7 * count) after))) was 0 end last → Puts longestSheet (rowsSaid items tanks (rowsOf table p roomForRows)) was 0 end last
+  pub hull-made : (items tanks : List ℤ) {count : ℕ} {was end : List ℕ} {last : ℕ} → Made table p after count → Puts longestSheet (rowLines (take (rowWidth * count) after) 0 count ++ conditionSaid (conditionOf items tanks (take (rowWidth * count) after))) was 0 end last → Puts longestSheet (rowsSaid items tanks (rowsOf table p roomForRows)) was 0 end last
   unfolding rowsSaid
   hull-made items tanks {count} made lines =
-      let counts : length (take (7 * count) after) / 7 ≡ count = ap (λ n. n / 7) (made .whole .whole) ∙ omega arith in
+      let counts : length (take (rowWidth * count) after) / rowWidth ≡ count = ap (λ n. n / rowWidth) (made .whole .whole) ∙ omega arith in
       rw (made .is, counts) lines
 
 -- ---- the file
@@ -118,17 +119,17 @@ pub record Whole-read (text h : List ℕ) (i t : List ℤ) (s : Summary) : Type 
   pub contents : Contents
   pub is : readerOf text roomForHalfBreadths roomForItems roomForTanks ≡ answered contents
   pub summary-is : s ≡ summaryOf contents
-  pub n-most : s .particulars .n ≤ 40
-  pub m-most : s .particulars .m ≤ 20
-  pub grid-most : (s .particulars .n + 1) * (s .particulars .m + 1) ≤ 861
-  pub items-most : s .items ≤ 32
-  pub tanks-most : s .tanks ≤ 16
-  pub grid-front : take ((s .particulars .n + 1) * (s .particulars .m + 1)) h ≡ map natAbs (contents .halfBreadths)
-  pub items-front : take (4 * s .items) i ≡ contents .items
-  pub tanks-front : take (8 * s .tanks) t ≡ contents .tanks
+  pub n-most : s .particulars .n ≤ most (rangeOf 0)
+  pub m-most : s .particulars .m ≤ most (rangeOf 1)
+  pub grid-most : pointsOf (s .particulars .n) (s .particulars .m) ≤ roomForHalfBreadths
+  pub items-most : s .items ≤ mostItems
+  pub tanks-most : s .tanks ≤ mostTanks
+  pub grid-front : halfBreadthsRead s h ≡ map natAbs (contents .halfBreadths)
+  pub items-front : itemsRead s i ≡ contents .items
+  pub tanks-front : tanksRead s t ≡ contents .tanks
 
 module _ {text h₀ h : List ℕ} {i₀ i t₀ t : List ℤ} {answer : ReadAnswer}
-    (halves : length h₀ ≡ 861) (items : length i₀ ≡ 128) (tanks : length t₀ ≡ 128)
+    (halves : length h₀ ≡ roomForHalfBreadths) (items : length i₀ ≡ roomForItems) (tanks : length t₀ ≡ roomForTanks)
     (reads : Reads text h₀ h i₀ i t₀ t answer) where
   read-is : readerOf text (length h₀) (length i₀) (length t₀) ≡ readerOf text roomForHalfBreadths roomForItems roomForTanks
   read-is = rw (halves, items, tanks)
@@ -161,7 +162,7 @@ module _ {text h₀ h : List ℕ} {i₀ i t₀ t : List ℤ} {answer : ReadAnswe
   pub file-read :
       {s : Summary} {was end : List ℕ} {last : ℕ}
       → Whole-read text h i t s
-      → Puts longestSheet (rowsSaid (take (4 * s .items) i) (take (8 * s .tanks) t) (rowsOf (take ((s .particulars .n + 1) * (s .particulars .m + 1)) h) (s .particulars) roomForRows)) was 0 end last
+      → Puts longestSheet (rowsSaid (itemsRead s i) (tanksRead s t) (rowsOf (halfBreadthsRead s h) (s .particulars) roomForRows)) was 0 end last
       → Puts longestSheet (sheetOf text) was 0 end last
   unfolding sheetOf fileSaid
   file-read {s} w lines = rw (w .is) (rw (w .items-front, w .tanks-front, w .grid-front, w .summary-is) at lines)
@@ -171,7 +172,7 @@ module _ (text : List ℕ) {lines after : List ℕ} {n : ℕ} (put : Puts longes
   length-is : n ≡ length (sheetOf text)
   length-is = put .next-is ∙ omega arith
 
-  pub report-short : (room : List ℕ) → length room < n → Reports text room room (Refused (record { number = 14; place = n }))
+  pub report-short : (room : List ℕ) → length room < n → Reports text room room (Refused (record { number = roomTooShort; place = n }))
   unfolding reportOf
   report-short room h =
       let short : length room < length (sheetOf text) = omega (arith, length-is) in

@@ -2,8 +2,9 @@
 -- 1 for a pass and 0 otherwise. One space stands between fields, and a line feed ends each line. A refusal prints "E", number, place."
 use Prim.Native.Nat.{ℕ, _+_}
 use mathlib.Core.Bool.{Bool, true, false}
-use mathlib.Core.List.{List, [], _∷_, _++_}
+use mathlib.Core.List.{List, [], _∷_, _++_, map}
 use lib.IntN.{ℤ, pos}
+use Rattle.hydrostatics.specs.Row.{numbersOf}
 use Rattle.hydrostatics.specs.declared.Row.{Row}
 use Rattle.loading.specs.declared.Condition.{Condition}
 use Rattle.loading.specs.declared.Heel.{Heel}
@@ -19,13 +20,22 @@ unfoldable pub fields : List ℤ → List ℕ
 fields [] = []
 fields (v ∷ rest) = field v ++ fields rest
 
+-- the bytes of the letters R, C and E
+abbrev pub rowLetter : ℕ
+rowLetter = 82
+
+abbrev pub conditionLetter : ℕ
+conditionLetter = 67
+
+abbrev pub refusalLetter : ℕ
+refusalLetter = 69
+
 -- a line by its letter and its fields
 abbrev pub lineOf : ℕ → List ℕ → List ℕ
 lineOf letter said = letter ∷ (said ++ lineFeed ∷ [])
 
 unfoldable pub rowLine : Row → List ℕ
-rowLine row =
-    lineOf 82 (fields (pos (row .draft) ∷ pos (row .displacement) ∷ pos (row .lcb) ∷ pos (row .kb) ∷ pos (row .bm) ∷ pos (row .km) ∷ pos (row .area) ∷ []))
+rowLine row = lineOf rowLetter (fields (map pos (numbersOf row)))
 
 -- the outcome's word: unstable, upright, heeled, beyond
 unfoldable pub word : Heel → List ℕ
@@ -40,10 +50,10 @@ mark false = 0
 
 unfoldable pub conditionLine : Condition → List ℕ
 conditionLine c =
-    lineOf 67
+    lineOf conditionLetter
     (fields (pos (c .weight) ∷ pos (c .draft) ∷ pos (c .km) ∷ pos (c .lcg) ∷ pos (c .«vertical_moment») ∷ pos (c .«free_surface») ∷ c .gm ∷ c .«transverse_moment» ∷ [])
     ++ space ∷ word (c .heel)
     ++ field (pos (mark (c .passes))))
 
 unfoldable pub refusalLine : ℕ → ℕ → List ℕ
-refusalLine number place = lineOf 69 (fields (pos number ∷ pos place ∷ []))
+refusalLine number place = lineOf refusalLetter (fields (pos number ∷ pos place ∷ []))

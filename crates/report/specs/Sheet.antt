@@ -1,6 +1,6 @@
 -- The whole sheet of a file's text. "A refusal prints "E", number, place, and ends the run; R lines come first only where it is the condition that refuses."
 use Prim.Native.Nat.{ℕ, zero, suc, _+_, _/_}
-use mathlib.Core.List.{List, [], _∷_, _++_, map}
+use mathlib.Core.List.{List, [], _++_, map}
 use lib.IntN.{ℤ, natAbs}
 use lib.ListN.{length}
 use Rattle.hydrostatics.specs.Rows.{rowsOf}

@@ -6,6 +6,8 @@ ghost use Prim.Native.Nat.{_≤_};
 ghost use lib.ListN.{length};
 ghost use Rattle.report.specs.Promise.{Reports};
 ghost use Rattle.report.specs.Sheet.{sheetOf};
+use hydrostatics::MOST_ROWS;
+use hydrostatics::ROW_WIDTH;
 use ranges::Refusal;
 
 // What making a sheet answers: how many bytes its lines take, or that the room is too short for them.
@@ -14,8 +16,18 @@ pub enum Report {
     Refused(Refusal),
 }
 
+// The most bytes of a field, which is a space, a minus and twenty digits, and of a condition's word.
+const MOST_FIELD: usize = 22;
+
+const MOST_WORD: usize = 8;
+
+// The most bytes of an R line, and of a C line: eight numbers, the word and the mark of a pass.
+const MOST_ROW_LINE: usize = 1 + ROW_WIDTH * MOST_FIELD + 1;
+
+const MOST_CONDITION_LINE: usize = 1 + 8 * MOST_FIELD + 1 + MOST_WORD + MOST_FIELD + 1;
+
 // No sheet is longer: room of this size is never too short.
-pub const LONGEST_SHEET: usize = 3_173;
+pub const LONGEST_SHEET: usize = MOST_ROWS * MOST_ROW_LINE + MOST_CONDITION_LINE;
 
 // Makes the sheet of a file's text, and puts its lines into the lent room, where they fit.
 pub fn make_report(text: &[u8], room: &mut [u8]) -> Report

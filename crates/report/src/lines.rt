@@ -7,6 +7,7 @@ ghost use lib.ListN.{length};
 ghost use Rattle.report.specs.Lines.{field, fields, rowLine, word, conditionLine, refusalLine};
 ghost use Rattle.report.specs.Private.Putting.{Puts, Ready, mostField, mostRowLine, mostWord, mostConditionLine, mostRefusalLine};
 ghost use Rattle.hydrostatics.specs.Usable.{rowIn};
+ghost use Rattle.ranges.specs.Sizes.{rowWidth};
 ghost use Rattle.report.specs.Sheet.{rowLines};
 use hydrostatics::ROW_WIDTH;
 use loading::Condition;
@@ -58,7 +59,7 @@ fn put_wholes(text: &mut [u8], at: usize, numbers: &[u64]) -> usize
 
 // The R line of one row's seven numbers.
 fn put_row(text: &mut [u8], at: usize, rows: &[u64], r: usize) -> usize
-    requires { ⌜ Ready mostRowLine (now text) at × (7 * r + 7 ≤ length (now rows)) ⌝ }
+    requires { ⌜ Ready mostRowLine (now text) at × (rowWidth * r + rowWidth ≤ length (now rows)) ⌝ }
     ensures { λ next. ⌜ Puts mostRowLine (rowLine (rowIn (now (rows .entry)) r)) (now (text .entry)) at (now (text .exit)) next ⌝ }
 {
     let first = ROW_WIDTH * r;
@@ -70,7 +71,7 @@ fn put_row(text: &mut [u8], at: usize, rows: &[u64], r: usize) -> usize
 
 // The R lines of so many rows.
 pub(crate) fn put_rows(text: &mut [u8], rows: &[u64], count: usize) -> usize
-    requires { ⌜ Ready (mostRowLine * count) (now text) 0 × (7 * count ≡ length (now rows)) ⌝ }
+    requires { ⌜ Ready (mostRowLine * count) (now text) 0 × (rowWidth * count ≡ length (now rows)) ⌝ }
     ensures { λ r. ⌜ Puts (mostRowLine * count) (rowLines (now (rows .entry)) 0 count) (now (text .entry)) 0 (now (text .exit)) r ⌝ }
 {
     let mut next = 0;

@@ -2,7 +2,7 @@
 use Prim.Native.Nat.{_*_, _-_, _≤_}
 use mathlib.Core.Path.{_≡_}
 use native.Mathlib.Omega.{arith}
-use Rattle.report.specs.Private.Putting.{Puts}
+use Rattle.report.specs.Private.Putting.{Puts, mostRowLine}
 use Rattle.report.specs.Sheet.{rowLines}
 use Rattle.report.proofs.Fields.{rows-none, rows-more}
 use Rattle.report.proofs.Pieces.{puts-length, ready-next}
@@ -10,7 +10,7 @@ use Rattle.report.proofs.lines.put_rows.Statement.{statement}
 use Rattle.report.proofs.lines.put_rows.Tie as tie
 
 abbrev Inv-loop : tie.InvT-loop
-Inv-loop text₀ rows count next₀ r₀ text next r = (r ≤ count) × Puts (156 * r) (rowLines rows 0 r) text₀ 0 text next
+Inv-loop text₀ rows count next₀ r₀ text next r = (r ≤ count) × Puts (mostRowLine * r) (rowLines rows 0 r) text₀ 0 text next
 
 abbrev μ-loop : tie.MeasureT-loop
 μ-loop text₀ rows count next₀ r₀ text next r = count - r

@@ -5,14 +5,14 @@ use native.Mathlib.Omega.{arith}
 use lib.IntN.{pos}
 use lib.ListN.{length, take}
 use Rattle.report.specs.Lines.{fields}
-use Rattle.report.specs.Private.Putting.{Puts}
+use Rattle.report.specs.Private.Putting.{Puts, mostField}
 use Rattle.report.proofs.Fields.{wholes-none, wholes-more, wholes-all}
 use Rattle.report.proofs.Pieces.{puts-length, ready-next}
 use Rattle.report.proofs.lines.put_wholes.Statement.{statement}
 use Rattle.report.proofs.lines.put_wholes.Tie as tie
 
 abbrev Inv-loop : tie.InvT-loop
-Inv-loop text₀ at numbers next₀ i₀ text next i = (i ≤ length numbers) × Puts (22 * i) (fields (map pos (take i numbers))) text₀ at text next
+Inv-loop text₀ at numbers next₀ i₀ text next i = (i ≤ length numbers) × Puts (mostField * i) (fields (map pos (take i numbers))) text₀ at text next
 
 abbrev μ-loop : tie.MeasureT-loop
 μ-loop text₀ at numbers next₀ i₀ text next i = length numbers - i

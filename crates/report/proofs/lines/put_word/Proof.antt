@@ -2,6 +2,7 @@
 use native.Mathlib.Omega.{arith}
 use borrow.Author.Needs.{needs}
 use Rattle.report.specs.Lines.{word}
+use Rattle.report.specs.Private.Putting.{mostWord}
 use Rattle.report.proofs.Pieces.{puts-le}
 use Rattle.report.proofs.lines.put_word.Statement.{statement}
 use Rattle.report.proofs.lines.put_word.Tie as tie
@@ -47,28 +48,28 @@ same-length c = search needs
 
 returns : tie.Need-returns
 unfolding word
-returns c = rw (c .before .before .before .before .before .enum-told .given .1) (puts-le (c .before .before .put .ensures) 8 (omega arith))
+returns c = rw (c .before .before .before .before .before .enum-told .given .1) (puts-le (c .before .before .put .ensures) mostWord (omega arith))
 
 same-length-2 : tie.Need-same-length-2
 same-length-2 c = search needs
 
 returns-2 : tie.Need-returns-2
 unfolding word
-returns-2 c = rw (c .before .before .before .before .before .enum-told2 .given .1) (puts-le (c .before .before .put2 .ensures) 8 (omega arith))
+returns-2 c = rw (c .before .before .before .before .before .enum-told2 .given .1) (puts-le (c .before .before .put2 .ensures) mostWord (omega arith))
 
 same-length-3 : tie.Need-same-length-3
 same-length-3 c = search needs
 
 returns-3 : tie.Need-returns-3
 unfolding word
-returns-3 c = rw (c .before .before .before .before .before .enum-told3 .given .1) (puts-le (c .before .before .put3 .ensures) 8 (omega arith))
+returns-3 c = rw (c .before .before .before .before .before .enum-told3 .given .1) (puts-le (c .before .before .put3 .ensures) mostWord (omega arith))
 
 same-length-4 : tie.Need-same-length-4
 same-length-4 c = search needs
 
 returns-4 : tie.Need-returns-4
 unfolding word
-returns-4 c = rw (c .before .before .before .before .before .enum-told4 .given .1) (puts-le (c .before .before .put4 .ensures) 8 (omega arith))
+returns-4 c = rw (c .before .before .before .before .before .enum-told4 .given .1) (puts-le (c .before .before .put4 .ensures) mostWord (omega arith))
 
 pub put-word-spec : {M : Type 1} → statement M
 put-word-spec =
