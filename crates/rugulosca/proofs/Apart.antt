@@ -29,7 +29,7 @@ use Rattle.rugulosca.proofs.Telling.{told-apart}
 pub record Apart {A : Type 0} (outcome : Outcome A) (number : ℕ) : Type 0 where
   pub zero-answered : number ≡ 0 → (a : A) × (outcome ≡ answered a)
   pub answered-zero : {a : A} → outcome ≡ answered a → number ≡ 0
-  pub else-numbered : {n place : ℕ} → outcome ≡ refused n place → (number ≡ n) × (1 ≤ number) × (number ≤ 14)
+  pub else-numbered : {n place : ℕ} → outcome ≡ refused n place → (number ≡ n) × (fileTooLong ≤ number) × (number ≤ roomTooShort)
 
 pub apart : {A B : Type 0} {value : A → B} {o : Outcome A} {was left : B} {place placeLeft number : ℕ} → Numbered o → Tells value o was left place placeLeft number → Apart o number
 apart {number} h t = record {

@@ -7,6 +7,11 @@ use loading::Answer;
 use loading::Condition;
 use loading::Heel;
 
+// How many numbers of a condition have no sign, and how many have one.
+const WHOLE_COUNT: usize = 8;
+
+const SIGNED_COUNT: usize = 2;
+
 // How the vessel lies, by number.
 fn lie(heel: Heel) -> u64
     ensures { λ r. ⌜ r ≡ lie heel ⌝ }
@@ -32,7 +37,7 @@ fn tangent_of(heel: Heel, was: f64) -> f64
 }
 
 // A condition's numbers without a sign.
-fn wholes_of(c: Condition) -> [u64; 8]
+fn wholes_of(c: Condition) -> [u64; WHOLE_COUNT]
     ensures { λ r. ⌜ r ≡ wholesOf c ⌝ }
 {
     let heel = c.heel;
@@ -54,8 +59,8 @@ pub extern "C" fn rugulosca_condition(
     items: &[i64],
     tanks: &[i64],
     rows: &[u64],
-    wholes: &mut [u64; 8],
-    signed_numbers: &mut [i64; 2],
+    wholes: &mut [u64; WHOLE_COUNT],
+    signed_numbers: &mut [i64; SIGNED_COUNT],
     tangent: &mut f64,
     place: &mut usize,
 ) -> u64

@@ -11,6 +11,10 @@ use crate::ANSWERED;
 use crate::hulls::particulars_of;
 use offsets::Read;
 use offsets::Written;
+use ranges::PARTICULAR_COUNT;
+
+// The particulars, and the counts of items and of tanks.
+const SUMMARY_COUNT: usize = PARTICULAR_COUNT + 2;
 
 // Reads a file into the lent tables: its five particulars and its counts of items and of tanks.
 #[no_mangle]
@@ -19,7 +23,7 @@ pub extern "C" fn rugulosca_read(
     half_breadths: &mut [u64],
     items: &mut [i64],
     tanks: &mut [i64],
-    summary: &mut [u64; 7],
+    summary: &mut [u64; SUMMARY_COUNT],
     place: &mut usize,
 ) -> u64
     ensures { λ r. ⌜ Tells summaryNumbers (summarised (readerOf (now (text .entry)) (length (now («half_breadths» .entry))) (length (now (items .entry))) (length (now (tanks .entry))))) (now (summary .entry)) (now (summary .exit)) (now (place .entry)) (now (place .exit)) r ⌝ }
@@ -49,7 +53,7 @@ pub extern "C" fn rugulosca_read(
 // Writes a file into the lent room, and how many bytes it takes.
 #[no_mangle]
 pub extern "C" fn rugulosca_write(
-    particulars: &[u64; 5],
+    particulars: &[u64; PARTICULAR_COUNT],
     half_breadths: &[u64],
     items: &[i64],
     tanks: &[i64],

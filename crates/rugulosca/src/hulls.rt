@@ -11,12 +11,14 @@ ghost use Rattle.ranges.specs.Outside.{particularsOf};
 ghost use Rattle.rugulosca.specs.Told.{Tells, figureNumbers};
 use crate::ANSWERED;
 use hydrostatics::Display;
+use hydrostatics::ROW_WIDTH;
 use hydrostatics::Row;
 use hydrostatics::Rows;
+use ranges::PARTICULAR_COUNT;
 use ranges::Particulars;
 
 // Five numbers as a hull's particulars.
-pub(crate) fn particulars_of(five: &[u64; 5]) -> Particulars
+pub(crate) fn particulars_of(five: &[u64; PARTICULAR_COUNT]) -> Particulars
     ensures { λ r. ⌜ r ≡ particularsOf (map pos (now (five .entry))) ⌝ }
 {
     Particulars {
@@ -32,7 +34,7 @@ pub(crate) fn particulars_of(five: &[u64; 5]) -> Particulars
 #[no_mangle]
 pub extern "C" fn rugulosca_rows(
     half_breadths: &[u64],
-    particulars: &[u64; 5],
+    particulars: &[u64; PARTICULAR_COUNT],
     rows: &mut [u64],
     count: &mut usize,
     place: &mut usize,
@@ -53,7 +55,7 @@ pub extern "C" fn rugulosca_rows(
 }
 
 // Seven numbers as a row.
-fn row_of(seven: &[u64; 7]) -> Row
+fn row_of(seven: &[u64; ROW_WIDTH]) -> Row
     ensures { λ r. ⌜ r ≡ rowIn (now (seven .entry)) 0 ⌝ }
 {
     Row {
@@ -70,8 +72,8 @@ fn row_of(seven: &[u64; 7]) -> Row
 // One row in metres, tonnes and square metres.
 #[no_mangle]
 pub extern "C" fn rugulosca_display(
-    row: &[u64; 7],
-    figures: &mut [f64; 7],
+    row: &[u64; ROW_WIDTH],
+    figures: &mut [f64; ROW_WIDTH],
     place: &mut usize,
 ) -> u64
     ensures { λ r. ⌜ Tells figureNumbers (displayOf (rowIn (now (row .entry)) 0)) (now (figures .entry)) (now (figures .exit)) (now (place .entry)) (now (place .exit)) r ⌝ }

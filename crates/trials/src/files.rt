@@ -1,6 +1,7 @@
 // The files of data/, NNN.txt with the answer NNN.out: up to 119 an independent calculation's, the others document 01's own figures.
 ghost use Prim.Native.Nat.{_+_, _≤_};
 ghost use lib.ListN.{length};
+ghost use Rattle.ranges.specs.Sizes.{roomForHalfBreadths};
 use crate::say;
 use offsets::Read;
 use offsets::Written;
@@ -10,7 +11,7 @@ use report::Report;
 const FILES: u64 = 127;
 
 // One byte more than a file may have.
-const LONGEST_INPUT: usize = 16_385;
+const LONGEST_INPUT: usize = ranges::LONGEST_FILE + 1;
 
 // What trying a file shows: whether its sheet is the answer beside it, whether the reader refuses it, and whether what it reads,
 // written and read again, is the same.
@@ -140,13 +141,13 @@ fn at_most(n: usize, most: usize) -> usize
     most
 }
 
-// How many half-breadths a hull has.
+// How many half-breadths a hull has, and no more than there is room for.
 fn points_of(p: Particulars) -> usize
-    ensures { λ r. ⌜ r ≤ 861 ⌝ }
+    ensures { λ r. ⌜ r ≤ roomForHalfBreadths ⌝ }
 {
-    let stations = at_most(p.n, 40) + 1;
-    let waterlines = at_most(p.m, 20) + 1;
-    stations * waterlines
+    let stations = at_most(p.n, ranges::HALF_BREADTH_ROOM) + 1;
+    let waterlines = at_most(p.m, ranges::HALF_BREADTH_ROOM) + 1;
+    at_most(stations * waterlines, ranges::HALF_BREADTH_ROOM)
 }
 
 // Whether these tables, written and read, are the same.

@@ -1,8 +1,9 @@
--- 41 stations of 21 waterlines are 861 half-breadths. Assumes nothing.
+-- Two factors that are no larger than the room have a product that fits. Assumes nothing.
+use Prim.Native.Nat.{_+_}
 use native.Mathlib.Omega.{arith}
-use native.Mathlib.Nat.{mul-le-mul}
-use Rattle.arithmetic.proofs.Products.{product-fits}
 use borrow.Author.Needs.{needs}
+use Rattle.arithmetic.proofs.Products.{product-fits}
+use Rattle.ranges.specs.Sizes.{roomForHalfBreadths}
 use Rattle.trials.proofs.files.points_of.Statement.{statement}
 use Rattle.trials.proofs.files.points_of.Tie as tie
 
@@ -18,13 +19,23 @@ at-most-requires-2 c κs = search needs
 add-waterlines : tie.Need-add-waterlines
 add-waterlines c = search needs
 
-mul-result : tie.Need-mul-result
-mul-result c = product-fits {A = 41} {B = 21} (omega arith) (omega arith) tt
+mul-at-most : tie.Need-mul-at-most
+mul-at-most c = product-fits {A = roomForHalfBreadths + 1} {B = roomForHalfBreadths + 1} (omega arith) (omega arith) tt
+
+at-most-requires-3 : tie.Need-at-most-requires-3
+at-most-requires-3 c κs = search needs
 
 returns : tie.Need-returns
-returns c = mul-le-mul {n₂ = 41} {m₂ = 21} (omega arith) (omega arith)
+returns c = search needs
 
 pub points-of-spec : {M : Type 1} → statement M
 points-of-spec =
     tie.close
-    (tie.spec at-most-requires add-stations at-most-requires-2 add-waterlines mul-result returns)
+    (tie.spec
+    at-most-requires
+    add-stations
+    at-most-requires-2
+    add-waterlines
+    mul-at-most
+    at-most-requires-3
+    returns)
