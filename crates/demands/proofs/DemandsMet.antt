@@ -23,6 +23,8 @@ use Rattle.loading.proofs.Answers.{answer-says}
 use Rattle.loading.proofs.Demand3 as Third
 use Rattle.loading.proofs.Demand3.{ConditionOver}
 use Rattle.loading.proofs.Unique.{paper-injective}
+use Rattle.rugulosca.specs.Told.{placeAfter, valueAfter}
+use Rattle.rugulosca.proofs.Apart.{apart}
 use Rattle.demands.specs.Demands.{Conditioned, IsCondition, Demand1, Demand2, Demand3, Demands}
 use Rattle.demands.proofs.Answering.{sheet-answers, reader-answers, writer-answers, rows-answer, display-answers, condition-answers}
 
@@ -34,6 +36,10 @@ demand-1 = record {
   of-the-rows = rows-answer;
   of-the-display = display-answers;
   of-the-condition = condition-answers;
+  told-by-a-number = λ {value = value} {was = was} {place = place} numbered tells. (
+    apart numbered tells,
+    λ n p e. (tells .place-is ∙ ap (λ o. placeAfter o place) e, tells .value-is ∙ ap (λ o. valueAfter value o was) e),
+  );
 }
 
 -- a condition that the call answered, over its rows

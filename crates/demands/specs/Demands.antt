@@ -5,8 +5,9 @@ use mathlib.Core.Path.{_≡_}
 use mathlib.Core.List.{List}
 use Prim.Native.Nat.{ℕ, _≤_, _<_}
 use lib.IntN.{ℤ, pos}
-use lib.ListN.{length, take}
-use Rattle.ranges.specs.Sizes.{rowsOver, itemWidth, tankWidth}
+use lib.ListN.{take}
+use Rattle.ranges.specs.Outcome.{Outcome, refused, Numbered}
+use Rattle.ranges.specs.Sizes.{rowsOver}
 use Rattle.ranges.specs.declared.Particulars.{Particulars}
 use Rattle.simpson.specs.Cubic.{cubic, area}
 use Rattle.simpson.specs.Curve.{curve}
@@ -45,6 +46,7 @@ use Rattle.loading.specs.declared.Condition.{Condition as Conditions}
 use Rattle.report.specs.Promise as Report
 use Rattle.report.specs.Promise.{Reports}
 use Rattle.report.specs.declared.Report.{Report as Reported}
+use Rattle.rugulosca.specs.Told.{Tells, Apart}
 use Rattle.demands.specs.Answering.{AnswersOrRefuses}
 
 -- an answer of the condition's call for these tables, and one that is a condition
@@ -56,7 +58,7 @@ IsCondition items tanks rows c = Conditioned items tanks rows (Laden c)
 
 -- "1. Every file and every lent table gets either its answer or one numbered refusal, and the work always ends. The public calls test everything themselves.
 -- A refusal gives its number and its place, and the tables lent for writing hold what they held before."
-pub record Demand1 : Type 0 where
+pub record Demand1 : Type 1 where
   pub of-the-sheet : (text room : List ℕ)
       → AnswersOrRefuses (λ (back : Reported × List ℕ). Reports text room (back .1) (back .0)) (λ back. Report.paper (back .0)) (λ back. back .1 ≡ room)
   pub of-the-reader : (text halfBreadths : List ℕ) (items tanks : List ℤ)
@@ -70,6 +72,9 @@ pub record Demand1 : Type 0 where
       → AnswersOrRefuses (λ (answer : Displayed). Display.paper answer ≡ displayOf row) Display.paper (λ answer. Unit)
   pub of-the-condition : (items tanks : List ℤ) (rows : List ℕ)
       → AnswersOrRefuses (Conditioned items tanks rows) Condition.paper (λ answer. Unit)
+  -- and as the calls for other languages tell it, by a number: 0, or the refusal's; with its place, and the values as they were
+  pub told-by-a-number : {A B : Type 0} {value : A → B} {outcome : Outcome A} {was left : B} {place placeLeft number : ℕ} → Numbered outcome → Tells value outcome was left place placeLeft number
+      → Apart outcome number × ((n p : ℕ) → outcome ≡ refused n p → (placeLeft ≡ p) × (left ≡ was))
 
 pub record Demand2 : Type 0 where
   -- "2. Areas, volumes, centres and metacentric radii are those of Simpson's first and second rules as document 01 states them, at every count from 2 to 40 intervals."
@@ -103,7 +108,7 @@ pub record Demand3 : Type 0 where
   pub gm-is-close : {items tanks : List ℤ} {rows : List ℕ} {c : Conditions} → IsCondition items tanks rows c
       → LessThanThreeBelow (c .gm) (unroundedGM paperRules (hull rows) (loadOf items tanks))
 
-pub record Demands : Type 0 where
+pub record Demands : Type 1 where
   pub demand-1 : Demand1
   pub demand-2 : Demand2
   pub demand-3 : Demand3

@@ -1,4 +1,4 @@
--- What rows, display and a table's use refuse has one of the paper's fourteen numbers.
+-- What rows, display and a table's use refuse has one of the paper's numbers.
 --     up-to-numbered, rows-numbered     the rows of a hull
 --     count-numbered                    and what is answered of them
 --     display-numbered                  the display of a row

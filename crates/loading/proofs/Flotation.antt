@@ -12,10 +12,10 @@ use native.Mathlib.Nat.{mul-le-mul-right, mul-add, div-one, zero-mul, zero-add}
 use native.Mathlib.Decide.{decLt}
 use native.Mathlib.Omega.{arith}
 use Rattle.arithmetic.proofs.Rounding.{down-of, down-mono, down-whole}
-use Rattle.ranges.specs.Fields.{highestMetacentre}
+use Rattle.ranges.specs.Fields.{highestMetacentre, most, rowRange}
 use Rattle.hydrostatics.specs.Usable.{rowIn, spacing}
 use Rattle.hydrostatics.specs.declared.Row.{Row}
-use Rattle.loading.specs.Private.Afloat.{RowsUsable, RowBelow, OnLine, Floats, Within, mostInRow}
+use Rattle.loading.specs.Private.Afloat.{RowsUsable, RowBelow, OnLine, Floats, Within}
 use Rattle.loading.specs.Paper.{paperRules, onLine}
 use Rattle.loading.specs.Table.{Table, Place, on, between, tableOf, lastRow, placeOf, draftAt, line}
 use Rattle.loading.specs.declared.floating.Floating.{Floating}
@@ -94,7 +94,7 @@ module _ {rows : List ℕ} {count W r : ℕ} {row : Row} (a : Afloat rows count 
             record { low = l .low; high = l .high; most = l .most; first = omega arith; second = omega (arith, row-usable .spacing-most) }
 
         module _ {more : ℕ} (e : more ≡ line 0 d (row .displacement) (next .displacement) W / (next .displacement - row .displacement)) where
-          pub draft-fits : row .draft + more ≤ mostInRow 0 + highestMetacentre
+          pub draft-fits : row .draft + more ≤ most (rowRange 0) + highestMetacentre
           draft-fits = rw e (omega (arith, line-most draft-line, row-usable .ranged .draft .1, ap (λ s. s .draft) (a .here)))
 
           pub floats-between : {km : ℕ} → km ≡ line (row .km) (next .km) (row .displacement) (next .displacement) W / (next .displacement - row .displacement) → Floats rows count W (record { draft = row .draft + more; km = km })

@@ -1,4 +1,4 @@
--- What a condition refuses has one of the paper's fourteen numbers.
+-- What a condition refuses has one of the paper's numbers.
 --     tanks-numbered         the tanks, one after another
 --     floats-numbered        the weight against the table
 --     condition-numbered     the condition

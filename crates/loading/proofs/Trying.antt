@@ -21,14 +21,14 @@ use Rattle.arithmetic.proofs.Choice.{chosen}
 use Rattle.hydrostatics.specs.Row.{numbersOf, waterlineOf}
 use Rattle.hydrostatics.specs.Usable.{rowIn, inRange, spaced, rises, metacentreFits, usableRow, usableUpTo}
 use Rattle.hydrostatics.specs.declared.Row.{Row}
-use Rattle.ranges.specs.Fields.{within, rangeOf, rowRanges}
+use Rattle.ranges.specs.Fields.{within, most, rangeOf, rowRanges, rowRange}
 use Rattle.ranges.specs.Outcome.{answered, refused, andThen}
 use Rattle.ranges.specs.Outside.{firstOutside}
 use Rattle.ranges.specs.Refusals.{rowsNotUsable}
 use Rattle.ranges.specs.Sizes.{rowWidth}
 use Rattle.hydrostatics.proofs.InRows.{row-in-range}
-use Rattle.loading.specs.Private.Afloat.{mostInRow, RowsTried}
-use Rattle.loading.proofs.Usability.{seven-are}
+use Rattle.hydrostatics.proofs.Reading.{seven-are}
+use Rattle.loading.specs.Private.Afloat.{RowsTried}
 
 -- ---- the distance between waterlines, where `first` is row 0's draft
 module _ (rows : List ℕ) (r : ℕ) {first : ℕ} (e : first ≡ rowIn rows 0 .draft) where
@@ -86,7 +86,7 @@ module _ (rows : List ℕ) (r : ℕ) (whole : rowWidth * r + rowWidth ≤ length
       usable-by s t e = e ∙ rw (ranged, s, t, here)
 
       -- KB and BM are in their ranges, so that their sum fits
-      pub heights-most : (row .kb ≤ mostInRow 3) × (row .bm ≤ mostInRow 4)
+      pub heights-most : (row .kb ≤ most (rowRange 3)) × (row .bm ≤ most (rowRange 4))
       heights-most = let facts = row-in-range row (sym o ∙ inside-all) in (facts .kb .1, facts .bm .1)
 
 -- ---- the table

@@ -1,5 +1,4 @@
 -- What refusal 10 leaves: a table of rows that is usable.
---     seven-are            the seven numbers of a row
 --     usable-count         what is answered of a usable table is its count,
 --     usable-row           and each of its rows is usable,
 --     UsableRow, row-facts, row-rises     which says so much in numbers
@@ -30,16 +29,12 @@ use Rattle.ranges.specs.Sizes.{rowWidth}
 use Rattle.ranges.proofs.Facts.{within-whole}
 use Rattle.ranges.proofs.Outcomes.{was-passed, answered-then}
 use Rattle.hydrostatics.proofs.InRows.{RowInRange, row-in-range}
+use Rattle.hydrostatics.proofs.Reading.{seven-are}
 use Rattle.loading.specs.Private.Afloat.{RowsWhole, RowsUsable}
 use Rattle.loading.proofs.Laws.{Waterlines, last, next, Usable}
 use Rattle.loading.specs.Table.{tableOf, rowsFrom}
-use Rattle.loading.proofs.Walks.{take-seven}
 
 module _ (rows : List ℕ) where
-  pub seven-are : (r : ℕ) → rowWidth * r + rowWidth ≤ length rows → seven rows r ≡ numbersOf (rowIn rows r)
-  unfolding rowIn
-  seven-are r h = take-seven rows 0 (rowWidth * r) h
-
   pub usable-row : (count n : ℕ) → usableUpTo rows count ≡ answered n → (r : ℕ) → r < count → usableRow rows r ≡ true
   unfolding usableUpTo
   usable-row zero n e r h = absurd (omega arith)
@@ -79,7 +74,7 @@ module _ (rows : List ℕ) where
   in-range : (r : ℕ) → rowWidth * r + rowWidth ≤ length rows → inRange rows r ≡ true → firstOutside rowRanges (map pos (numbersOf (rowIn rows r))) ≡ rowWidth
   unfolding inRange
   in-range r h e =
-      ap (λ l. firstOutside rowRanges (map pos l)) (sym (seven-are r h))
+      ap (λ l. firstOutside rowRanges (map pos l)) (sym (seven-are rows r h))
       ∙ eqb-true (firstOutside rowRanges (map pos (seven rows r))) rowWidth e
 
   spacing-is : (r : ℕ) → spaced rows r ≡ true → (least (rangeOf 3) ≤ spacing rows) × (spacing rows ≤ most (rangeOf 3)) × (rowIn rows r .draft ≡ waterlineOf r * spacing rows)

@@ -1,5 +1,5 @@
 -- Tables walked record by record, from place i on.
---     drop-four, drop-eight, take-seven      the next numbers of a table
+--     drop-four, drop-eight           the next numbers of a table
 --     items-next, tanks-next          the next item, the next tank
 --     Walked                          the walk's invariant,
 --     walk-start, -step, -end         which holds from the first record to the last
@@ -10,7 +10,7 @@ use Prim.Native.Nat.{ℕ, suc, _+_, _*_, _<_, _≤_}
 use native.Mathlib.Nat.{add-assoc, add-zero, zero-add, zero-mul, suc-mul, mul-suc}
 use native.Mathlib.Omega.{arith}
 use lib.IntN.{ℤ, pos}
-use lib.ListN.{length, take, drop, getD, drop-of-length-le}
+use lib.ListN.{length, drop, getD, drop-of-length-le}
 use Rattle.ranges.specs.Sizes.{itemWidth, tankWidth}
 use Rattle.arithmetic.proofs.Parts.{drop-step}
 use Rattle.loading.specs.Private.Aboard.{nothing, _with_, altogether, itemAt, tankAt, Reach}
@@ -34,15 +34,6 @@ module _ {A : Type 0} (s : List A) (d : A) where
 
   pub drop-eight : (i : ℕ) → i + 8 ≤ length s → drop i s ≡ getD s i d ∷ getD s (i + 1) d ∷ getD s (i + 2) d ∷ getD s (i + 3) d ∷ getD s (i + 4) d ∷ getD s (i + 5) d ∷ getD s (i + 6) d ∷ getD s (i + 7) d ∷ drop (i + 8) s
   drop-eight i h = rw (drop-four i (omega arith), drop-four (i + 4) (omega arith)) (simp add-assoc)
-
-  pub take-seven : (i : ℕ) → i + 7 ≤ length s → take 7 (drop i s) ≡ getD s i d ∷ getD s (i + 1) d ∷ getD s (i + 2) d ∷ getD s (i + 3) d ∷ getD s (i + 4) d ∷ getD s (i + 5) d ∷ getD s (i + 6) d ∷ []
-  take-seven i h =
-      rw (
-        drop-four i (omega arith),
-        drop-next (i + 4) (i + 5) (omega arith) (omega arith),
-        drop-next (i + 5) (i + 6) (omega arith) (omega arith),
-        drop-next (i + 6) (i + 7) (omega arith) (omega arith),
-      )
 
 module _ (s : List ℤ) (i : ℕ) where
   pub items-next : i + itemWidth ≤ length s → itemsOf (drop i s) ≡ itemAt s i ∷ itemsOf (drop (i + itemWidth) s)

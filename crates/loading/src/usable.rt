@@ -5,8 +5,9 @@ ghost use Prim.Native.Nat.{_+_, _*_, _<_, _≤_};
 ghost use lib.Dec.{eqb};
 ghost use lib.ListN.{length};
 ghost use Rattle.hydrostatics.specs.Usable.{spaced, rises, usableRow};
-ghost use Rattle.loading.specs.Private.Afloat.{mostInRow, RowsWhole, RowsTried};
+ghost use Rattle.loading.specs.Private.Afloat.{RowsWhole, RowsTried};
 use crate::rows;
+ghost use Rattle.ranges.specs.Fields.{most, rowRange};
 ghost use Rattle.ranges.specs.Sizes.{mostRows, rowWidth};
 
 // The field of the distance between waterlines.
@@ -41,7 +42,7 @@ fn is_rising(rows: &[u64], r: usize) -> bool
 
 // KB + BM is KM or KM less one.
 fn metacentre_fits(kb: u64, bm: u64, km: u64) -> bool
-    requires { ⌜ (kb ≤ mostInRow 3) × (bm ≤ mostInRow 4) ⌝ }
+    requires { ⌜ (kb ≤ most (rowRange 3)) × (bm ≤ most (rowRange 4)) ⌝ }
     ensures { λ b. ⌜ b ≡ (eqb (kb + bm) km || eqb (kb + bm + 1) km) ⌝ }
 {
     if kb + bm == km {

@@ -1,4 +1,4 @@
--- What the reader and the writer refuse has one of the paper's fourteen numbers.
+-- What the reader and the writer refuse has one of the paper's numbers.
 --     one-numbered, count-numbered, numbers-numbered, section-numbered, complete-numbered, file-numbered     the parts of a file
 --     reader-numbered, writer-numbered             the calls' outcomes
 --     summarised-numbered, length-numbered         and what is answered of them

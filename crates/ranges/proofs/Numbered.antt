@@ -1,4 +1,4 @@
--- A refusal has one of the paper's fourteen numbers (`Numbered` of specs); so none has 0. Each part that definitions are made of keeps this.
+-- A refusal has one of the paper's numbers (`Numbered` of specs); so none has 0. Each part that definitions are made of keeps this.
 --     answered-numbered     an answer
 --     refused-numbered      a refusal with such a number
 --     passed-on             a refusal that is passed on, in place of another answer
@@ -18,14 +18,14 @@ use Rattle.ranges.specs.Refusals.{firstRefusal, lastRefusal}
 use Rattle.ranges.proofs.Outcomes.{refused-not}
 
 pub answered-numbered : {A : Type 0} (a : A) → Numbered (answered a)
-answered-numbered a = record { one-of-fourteen = λ e. refused-not (sym e) }
+answered-numbered a = record { of-the-paper = λ e. refused-not (sym e) }
 
 pub refused-numbered : {A : Type 0} {number place : ℕ} → firstRefusal ≤ number → number ≤ lastRefusal → Numbered {A = A} (refused number place)
 refused-numbered {number} first last =
-    record { one-of-fourteen = λ {number = n} e. let same : number ≡ n = cc in (omega arith, omega arith) }
+    record { of-the-paper = λ {number = n} e. let same : number ≡ n = cc in (omega arith, omega arith) }
 
 pub passed-on : {A B : Type 0} {number place : ℕ} → Numbered {A = A} (refused number place) → Numbered {A = B} (refused number place)
-passed-on h = let fourteen = h .one-of-fourteen refl in refused-numbered (fourteen .0) (fourteen .1)
+passed-on h = let numbers = h .of-the-paper refl in refused-numbered (numbers .0) (numbers .1)
 
 -- ---- tests
 pub if-numbered : {A : Type 0} {a b : Outcome A} (t : Bool) → Numbered a → Numbered b → Numbered (if t then a else b)

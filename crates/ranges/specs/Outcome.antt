@@ -13,6 +13,6 @@ unfoldable pub andThen : {A B : Type 0} → Outcome A → (A → Outcome B) → 
 andThen (answered a) next = next a
 andThen (refused number place) next = refused number place
 
--- "Refusals by number": what is refused has one of the paper's fourteen
+-- "Refusals by number": what is refused has one of the paper's numbers
 pub record Numbered {A : Type 0} (outcome : Outcome A) : Type 0 where
-  pub one-of-fourteen : {number place : ℕ} → outcome ≡ refused number place → (firstRefusal ≤ number) × (number ≤ lastRefusal)
+  pub of-the-paper : {number place : ℕ} → outcome ≡ refused number place → (firstRefusal ≤ number) × (number ≤ lastRefusal)

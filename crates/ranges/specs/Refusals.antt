@@ -1,4 +1,4 @@
--- "Refusals by number": the paper's fourteen, by name.
+-- "Refusals by number", by name.
 use Prim.Native.Nat.{ℕ}
 
 -- file over 16,384 bytes

@@ -4,7 +4,6 @@
 --     rowLines-more          one row's line more
 --     rows-more              the same of a text that they are put into
 --     mark-is                the mark of a pass as the code's number
---     seven-of-row           the row's part of the table is its seven numbers
 -- Assumes nothing.
 use Prim.Native.Nat.{ℕ, zero, suc, _+_, _*_, _-_, _≤_, _<_}
 use mathlib.Core.Bool.{Bool, true, false}
@@ -20,6 +19,7 @@ use mir.Val.{boolByte}
 use Rattle.arithmetic.proofs.Parts.{take-step, drop-step}
 use Rattle.hydrostatics.specs.Row.{numbersOf}
 use Rattle.hydrostatics.specs.Usable.{rowIn}
+use Rattle.hydrostatics.proofs.Reading.{seven-are}
 use Rattle.loading.specs.declared.Condition.{Condition}
 use Rattle.offsets.specs.Tokens.{space, lineFeed}
 use Rattle.ranges.specs.Sizes.{rowWidth}
@@ -99,12 +99,6 @@ pub mark-is : (t : Bool) → mark t ≡ boolByte t
 mark-is true = refl
 mark-is false = refl
 
-pub seven-of-row : (rows : List ℕ) (r : ℕ) → rowWidth * r + rowWidth ≤ length rows → take rowWidth (drop (rowWidth * r) rows) ≡ numbersOf (rowIn rows r)
-unfolding rowIn
-seven-of-row rows r h =
-    let a = rowWidth * r in
-    rw (drop-step rows a 0 (omega arith), drop-step rows (a + 1) 0 (omega arith), add-assoc, drop-step rows (a + 2) 0 (omega arith), add-assoc, drop-step rows (a + 3) 0 (omega arith), add-assoc, drop-step rows (a + 4) 0 (omega arith), add-assoc, drop-step rows (a + 5) 0 (omega arith), add-assoc, drop-step rows (a + 6) 0 (omega arith))
-
 -- ---- whole lines
 -- a letter, the fields, and the line feed
 pub puts-line :
@@ -126,7 +120,7 @@ pub row-fields :
     → Puts (rowWidth * mostField) (fields (map pos (numbersOf (rowIn rows r)))) was at after next
 row-fields rows r h p =
     let count : rowWidth * r + rowWidth - rowWidth * r ≡ rowWidth = omega arith in
-    rw (count, seven-of-row rows r h) at p
+    rw (count, seven-are rows r h) at p
 
 module _ {was t1 t2 t3 t4 t5 t6 : List ℕ} {at n1 n2 n3 n4 n5 n6 : ℕ} {w1 w2 w3 w4 w5 w6 : List ℕ}
     (ready : Ready mostConditionLine was at)

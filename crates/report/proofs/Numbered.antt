@@ -1,4 +1,4 @@
--- What the sheet's call refuses has one of the paper's fourteen numbers.
+-- What the sheet's call refuses has one of the paper's numbers.
 --     report-numbered     room too short, and nothing else
 -- Assumes nothing.
 use Prim.Native.Nat.{ℕ}

@@ -1,5 +1,4 @@
 -- The number that a call returns tells an answer from a refusal.
---     Apart     0 exactly where the outcome is an answer, and else one of the paper's fourteen numbers
 --     apart     so it is of every outcome whose refusals have these numbers
 --     report-apart, read-apart, write-apart, rows-apart, display-apart, condition-apart     and so of each call, by what it promises
 -- Assumes nothing.
@@ -23,13 +22,8 @@ use Rattle.loading.specs.Condition.{conditionOf}
 use Rattle.loading.proofs.Numbered.{condition-numbered}
 use Rattle.report.specs.Promise.{reportOf}
 use Rattle.report.proofs.Numbered.{report-numbered}
-use Rattle.rugulosca.specs.Told.{numberOf, Tells, summaryNumbers, figureNumbers, wholesOf}
+use Rattle.rugulosca.specs.Told.{numberOf, Tells, Apart, summaryNumbers, figureNumbers, wholesOf}
 use Rattle.rugulosca.proofs.Telling.{told-apart}
-
-pub record Apart {A : Type 0} (outcome : Outcome A) (number : ℕ) : Type 0 where
-  pub zero-answered : number ≡ 0 → (a : A) × (outcome ≡ answered a)
-  pub answered-zero : {a : A} → outcome ≡ answered a → number ≡ 0
-  pub else-numbered : {n place : ℕ} → outcome ≡ refused n place → (number ≡ n) × (fileTooLong ≤ number) × (number ≤ roomTooShort)
 
 pub apart : {A B : Type 0} {value : A → B} {o : Outcome A} {was left : B} {place placeLeft number : ℕ} → Numbered o → Tells value o was left place placeLeft number → Apart o number
 apart {number} h t = record {
@@ -37,7 +31,7 @@ apart {number} h t = record {
   answered-zero = λ e. t .number-is ∙ ap numberOf e;
   else-numbered = λ {n} e.
       let is : number ≡ n = t .number-is ∙ ap numberOf e in
-      let fourteen = h .one-of-fourteen e in
+      let numbers = h .of-the-paper e in
       (is, omega arith, omega arith);
 }
 

@@ -32,7 +32,7 @@ declined value {was} {place} e =
 
 pub told-apart : {A : Type 0} {o : Outcome A} → Numbered o → numberOf o ≡ 0 → (a : A) × (o ≡ answered a)
 told-apart {o = answered a} h e = (a, refl)
-told-apart {o = refused number place} h e = let fourteen = h .one-of-fourteen refl in absurd (omega arith)
+told-apart {o = refused number place} h e = let numbers = h .of-the-paper refl in absurd (omega arith)
 
 pub tells-unique : {A B : Type 0} {value : A → B} {o : Outcome A} {was left left′ : B} {place placeLeft placeLeft′ number number′ : ℕ}
     → Tells value o was left place placeLeft number → Tells value o was left′ place placeLeft′ number′ → (number ≡ number′) × (placeLeft ≡ placeLeft′) × (left ≡ left′)

@@ -1,6 +1,6 @@
 -- How an outcome is told by numbers alone: 0 and the values of the answer, or the refusal's number and its place. What is not
 -- told stays as it was.
-use Prim.Native.Nat.{ℕ}
+use Prim.Native.Nat.{ℕ, _≤_}
 use mathlib.Core.List.{List, [], _∷_}
 use mathlib.Core.Path.{_≡_}
 use lib.Ieee.{Float}
@@ -12,6 +12,7 @@ use Rattle.loading.specs.declared.Heel.the-variants.{Unstable, Upright, Heeled,
 use Rattle.offsets.specs.declared.Summary.{Summary}
 use Rattle.report.specs.Lines.{mark}
 use Rattle.ranges.specs.Outcome.{Outcome, answered, refused}
+use Rattle.ranges.specs.Refusals.{firstRefusal, lastRefusal}
 
 abbrev pub numberOf : {A : Type 0} → Outcome A → ℕ
 numberOf (answered a) = 0
@@ -30,6 +31,12 @@ pub record Tells {A B : Type 0} (value : A → B) (outcome : Outcome A) (was lef
   pub number-is : number ≡ numberOf outcome
   pub place-is : placeLeft ≡ placeAfter outcome place
   pub value-is : left ≡ valueAfter value outcome was
+
+-- The number tells an answer from a refusal: 0 exactly where the outcome is an answer, and else the refusal's own, one of the paper's.
+pub record Apart {A : Type 0} (outcome : Outcome A) (number : ℕ) : Type 0 where
+  pub zero-answered : number ≡ 0 → (a : A) × (outcome ≡ answered a)
+  pub answered-zero : {a : A} → outcome ≡ answered a → number ≡ 0
+  pub else-numbered : {n place : ℕ} → outcome ≡ refused n place → (number ≡ n) × (firstRefusal ≤ number) × (number ≤ lastRefusal)
 
 -- the five particulars, the count of items and the count of tanks
 abbrev pub summaryNumbers : Summary → List ℕ

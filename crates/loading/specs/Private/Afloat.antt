@@ -3,9 +3,9 @@ use Prim.Native.Nat.{ℕ, _+_, _*_, _-_, _≤_, _<_}
 use mathlib.Core.Path.{_≡_}
 use mathlib.Core.List.{List}
 use lib.Dec.{ltb}
-use lib.ListN.{length, getD}
+use lib.ListN.{length}
 use Rattle.arithmetic.specs.Choice.{if_then_else_}
-use Rattle.ranges.specs.Fields.{highestMetacentre, _to_, most, rowRanges}
+use Rattle.ranges.specs.Fields.{most, rowRange, highestMetacentre}
 use Rattle.hydrostatics.specs.Usable.{rowIn, usableUpTo}
 use Rattle.ranges.specs.Outcome.{answered, refused}
 use Rattle.ranges.specs.Refusals.{rowsNotUsable}
@@ -34,15 +34,11 @@ pub record Within (t : Table) (W : ℕ) : Type 0 where
   pub least : t .first .displacement ≤ W
   pub most : W ≤ lastRow t .displacement
 
--- a number of a row in its range, by its place in the row
-abbrev pub mostInRow : ℕ → ℕ
-mostInRow place = most (getD rowRanges place (1 to 0))
-
 -- heights of a KM at most, a at lo and b at hi, and a weight between the two
 pub record OnLine (a b lo hi w : ℕ) : Type 0 where
   pub low : lo ≤ w
   pub high : w < hi
-  pub most : hi ≤ mostInRow 1
+  pub most : hi ≤ most (rowRange 1)
   pub first : a ≤ highestMetacentre
   pub second : b ≤ highestMetacentre
 

@@ -3,17 +3,17 @@ use native.Mathlib.Nat.{mul-le-mul}
 use native.Mathlib.Omega.{arith}
 use Prim.Native.Nat.{ℕ, _*_, _-_, _≤_}
 use borrow.Author.Needs.{needs}
-use Rattle.ranges.specs.Fields.{highestMetacentre}
-use Rattle.loading.specs.Private.Afloat.{OnLine, mostInRow}
+use Rattle.ranges.specs.Fields.{highestMetacentre, most, rowRange}
+use Rattle.loading.specs.Private.Afloat.{OnLine}
 use Rattle.loading.proofs.floating.on_line.Statement.{statement}
 use Rattle.loading.proofs.floating.on_line.Tie as tie
 
 module _ {a b lo hi w : ℕ} (l : OnLine a b lo hi w) where
-  left : a * (hi - w) ≤ highestMetacentre * mostInRow 1
-  left = let h : hi - w ≤ mostInRow 1 = omega arith in mul-le-mul (l .first) h
+  left : a * (hi - w) ≤ highestMetacentre * most (rowRange 1)
+  left = let h : hi - w ≤ most (rowRange 1) = omega arith in mul-le-mul (l .first) h
 
-  right : b * (w - lo) ≤ highestMetacentre * mostInRow 1
-  right = let h : w - lo ≤ mostInRow 1 = omega arith in mul-le-mul (l .second) h
+  right : b * (w - lo) ≤ highestMetacentre * most (rowRange 1)
+  right = let h : w - lo ≤ most (rowRange 1) = omega arith in mul-le-mul (l .second) h
 
 sub-result : tie.Need-sub-result
 sub-result c = search needs
