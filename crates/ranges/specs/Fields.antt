@@ -36,13 +36,17 @@ particulars = 2 to 40 ∷ 3 to 20 ∷ 50 to 2_500 ∷ 10 to 500 ∷ 900 to 1_100
 abbrev pub halfBreadth : List Range
 halfBreadth = 0 to 8_000 ∷ []
 
--- kg; x mm from station 0; y mm; z mm
+-- where a weight stands: x mm from station 0; y mm; z mm
+abbrev pub spot : List Range
+spot = 0 to 100_000 ∷ ± 10_000 ∷ 0 to 30_000 ∷ []
+
+-- kg; x, y, z
 abbrev pub item : List Range
-item = 0 to 300_000 ∷ 0 to 100_000 ∷ ± 10_000 ∷ 0 to 30_000 ∷ []
+item = 0 to 300_000 ∷ spot
 
 -- contents kg; capacity kg; x, y, z as for items; length mm; breadth mm; liquid density, kg/m³
 abbrev pub tank : List Range
-tank = 0 to 400_000 ∷ 1 to 400_000 ∷ 0 to 100_000 ∷ ± 10_000 ∷ 0 to 30_000 ∷ 1 to 10_000 ∷ 1 to 8_000 ∷ 1 to 1_500 ∷ []
+tank = 0 to 400_000 ∷ 1 to 400_000 ∷ spot ++ 1 to 10_000 ∷ 1 to 8_000 ∷ 1 to 1_500 ∷ []
 
 -- "KM above 100,000" is refused with 9: the highest KM of a row
 abbrev pub highestMetacentre : ℕ

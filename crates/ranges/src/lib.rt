@@ -105,6 +105,13 @@ pub const MOST_DRAFT_INTERVALS: u64 = 20;
 
 pub const HIGHEST_METACENTRE: u64 = 100_000;
 
+// Where a weight may stand, in mm: the most x from station 0, y to either side, and z.
+const MOST_X: u64 = 100_000;
+
+const MOST_Y: u64 = 10_000;
+
+const MOST_Z: u64 = 30_000;
+
 // The most stations and waterlines, n + 1 and m + 1; the most rows, m − 1; the most items and tanks.
 pub const MOST_STATIONS: usize = MOST_LENGTH_INTERVALS as usize + 1;
 
@@ -144,14 +151,14 @@ fn bounds_of(field: usize) -> Bounds
         4 => Bounds::FromTo(900, 1_100), // density
         5 => Bounds::FromTo(0, 8_000), // half-breadth
         6 => Bounds::FromTo(0, 300_000), // item: kg
-        7 => Bounds::FromTo(0, 100_000), // x
-        8 => Bounds::EitherSide(10_000), // y
-        9 => Bounds::FromTo(0, 30_000), // z
+        7 => Bounds::FromTo(0, MOST_X), // x
+        8 => Bounds::EitherSide(MOST_Y), // y
+        9 => Bounds::FromTo(0, MOST_Z), // z
         10 => Bounds::FromTo(0, 400_000), // tank: contents
         11 => Bounds::FromTo(1, 400_000), // capacity
-        12 => Bounds::FromTo(0, 100_000), // x
-        13 => Bounds::EitherSide(10_000), // y
-        14 => Bounds::FromTo(0, 30_000), // z
+        12 => Bounds::FromTo(0, MOST_X), // x
+        13 => Bounds::EitherSide(MOST_Y), // y
+        14 => Bounds::FromTo(0, MOST_Z), // z
         15 => Bounds::FromTo(1, 10_000), // length
         16 => Bounds::FromTo(1, 8_000), // breadth
         17 => Bounds::FromTo(1, 1_500), // liquid density
