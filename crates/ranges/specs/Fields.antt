@@ -37,16 +37,22 @@ abbrev pub halfBreadth : List Range
 halfBreadth = 0 to 8_000 ∷ []
 
 -- where a weight stands: x mm from station 0; y mm; z mm
-abbrev pub spot : List Range
-spot = 0 to 100_000 ∷ ± 10_000 ∷ 0 to 30_000 ∷ []
+abbrev pub xRange : Range
+xRange = 0 to 100_000
+
+abbrev pub yRange : Range
+yRange = ± 10_000
+
+abbrev pub zRange : Range
+zRange = 0 to 30_000
 
 -- kg; x, y, z
 abbrev pub item : List Range
-item = 0 to 300_000 ∷ spot
+item = 0 to 300_000 ∷ xRange ∷ yRange ∷ zRange ∷ []
 
 -- contents kg; capacity kg; x, y, z as for items; length mm; breadth mm; liquid density, kg/m³
 abbrev pub tank : List Range
-tank = 0 to 400_000 ∷ 1 to 400_000 ∷ spot ++ 1 to 10_000 ∷ 1 to 8_000 ∷ 1 to 1_500 ∷ []
+tank = 0 to 400_000 ∷ 1 to 400_000 ∷ xRange ∷ yRange ∷ zRange ∷ 1 to 10_000 ∷ 1 to 8_000 ∷ 1 to 1_500 ∷ []
 
 -- "KM above 100,000" is refused with 9: the highest KM of a row
 abbrev pub highestMetacentre : ℕ
