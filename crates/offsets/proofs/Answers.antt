@@ -19,6 +19,7 @@ use Rattle.ranges.specs.Outcome.{answered, refused}
 use Rattle.ranges.specs.Outside.{particularsOf}
 use Rattle.ranges.specs.Refusals.{fileTooLong, wrongSize, halfBreadthTable, itemTable, tankTable}
 use Rattle.ranges.specs.Sizes.{longestFile, itemWidth, tankWidth, roomForHalfBreadths, roomForItems, roomForTanks}
+use Rattle.ranges.specs.declared.Particulars.{Particulars}
 use Rattle.ranges.specs.declared.Refusal.{Refusal}
 use Rattle.offsets.specs.File.{Contents, file}
 use Rattle.offsets.specs.Reader.{readerOf, summarised, filled, Reads}
@@ -77,18 +78,20 @@ module _ (text h₀ : List ℕ) (i₀ t₀ : List ℤ) where
         read-is = on-file ∙ parses .read ∙ rw whole
 
         pub sheet :
-            h ≡ map natAbs (take p half) ++ drop p h₀
+            {particulars-read : Particulars}
+            → particulars-read ≡ particularsOf hull
+            → h ≡ map natAbs (take p half) ++ drop p h₀
             → j ≡ take (itemWidth * i) items ++ drop (itemWidth * i) i₀
             → k ≡ take (tankWidth * t) tanks ++ drop (tankWidth * t) t₀
-            → Reads text h₀ h i₀ j t₀ k (Sheet (record { particulars = particularsOf hull; items = i; tanks = t }))
+            → Reads text h₀ h i₀ j t₀ k (Sheet (record { particulars = particulars-read; items = i; tanks = t }))
         unfolding summarised filled contents
-        sheet a b c =
+        sheet e a b c =
             let fits = rw whole at (parses .fits) in
             let lp : p ≤ length half = omega arith in
             let li : itemWidth * i ≤ length items = omega arith in
             let lt : tankWidth * t ≤ length tanks = omega arith in
             record {
-              answer-is = rw (read-is, same-hull, counted i itemWidth items (omega arith) li, counted t tankWidth tanks (omega arith) lt);
+              answer-is = rw (read-is, e, same-hull, counted i itemWidth items (omega arith) li, counted t tankWidth tanks (omega arith) lt);
               tables-are = record {
                 half-breadths-left = rw read-is (front p (map natAbs (take p half)) h₀ h (length-map (take p half) natAbs ∙ length-take-le p half lp) a);
                 items-left = rw read-is (front (itemWidth * i) (take (itemWidth * i) items) i₀ j (length-take-le (itemWidth * i) items li) b);

@@ -98,8 +98,7 @@ returns-2 : tie.Need-returns-2
 returns-2 c =
     let p = c .before .before .before .before .before .before .before .before .before .before .before .before .before .before .before .before in
     let f = p .before .before .before .before .before .before in
-    rw (c .particulars-of .ensures)
-    (sheet _ _ _ _ (f .before .before .before .before .before .before .before .pre) _ _ _ _ _ (f .parse .ensures) _ _ _ (p .points .given .1) (rooms f) _ _ _ (c .before .before .before .before .before .before .before .before .before .before .before .before .copy-whole .ensures) (c .before .before .before .before .before .before .before .copy .ensures) (c .before .before .before .copy2 .ensures))
+    sheet _ _ _ _ (f .before .before .before .before .before .before .before .pre) _ _ _ _ _ (f .parse .ensures) _ _ _ (p .points .given .1) (rooms f) _ _ _ (c .particulars-of .ensures) (c .before .before .before .before .before .before .before .before .before .before .before .before .copy-whole .ensures) (c .before .before .before .before .before .before .before .copy .ensures) (c .before .before .before .copy2 .ensures)
 
 pub read-sized-spec : {M : Type 1} → statement M
 read-sized-spec =
