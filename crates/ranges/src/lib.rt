@@ -4,7 +4,7 @@ ghost use mathlib.Core.List.{map};
 ghost use lib.IntN.{pos};
 ghost use lib.ListN.{length, take, drop};
 ghost use Prim.Native.Nat.{_+_, _<_, _≤_};
-ghost use Rattle.ranges.specs.Private.Bounds.{rangeKept};
+ghost use Rattle.ranges.specs.Private.Bounds.{boundsOf};
 ghost use Rattle.ranges.specs.Fields.{_to_, within, rangeOf, fields, particulars, halfBreadth, item, tank, rowRanges};
 ghost use Rattle.ranges.specs.Outside.{fieldAfter, firstOutside, numbersOf};
 ghost use Rattle.ranges.specs.Sides.{sidesOf};
@@ -133,43 +133,44 @@ pub const ITEM_ROOM: usize = ITEM_WIDTH * MOST_ITEMS;
 
 pub const TANK_ROOM: usize = TANK_WIDTH * MOST_TANKS;
 
-// The range of a field: from a least number to a greatest, or as far below 0 as above.
-enum Bounds {
-    FromTo(u64, u64),
-    EitherSide(u64),
-}
+// The range of a field: its least number from 0 on, its greatest, and whether it reaches as far below 0.
+struct Bounds(u64, u64, bool);
+
+const EITHER_SIDE: bool = true;
+
+const FROM_0: bool = false;
 
 // The range of a field by its number. No number is in the range of a field that there is not.
 fn bounds_of(field: usize) -> Bounds
-    ensures { λ r. ⌜ rangeKept r ≡ rangeOf field ⌝ }
+    ensures { λ r. ⌜ r ≡ boundsOf (rangeOf field) ⌝ }
 {
     match field {
-        0 => Bounds::FromTo(2, MOST_LENGTH_INTERVALS), // n
-        1 => Bounds::FromTo(3, MOST_DRAFT_INTERVALS), // m
-        2 => Bounds::FromTo(50, 2_500), // s
-        3 => Bounds::FromTo(10, 500), // d
-        4 => Bounds::FromTo(900, 1_100), // density
-        5 => Bounds::FromTo(0, 8_000), // half-breadth
-        6 => Bounds::FromTo(0, 300_000), // item: kg
-        7 => Bounds::FromTo(0, MOST_X), // x
-        8 => Bounds::EitherSide(MOST_Y), // y
-        9 => Bounds::FromTo(0, MOST_Z), // z
-        10 => Bounds::FromTo(0, 400_000), // tank: contents
-        11 => Bounds::FromTo(1, 400_000), // capacity
-        12 => Bounds::FromTo(0, MOST_X), // x
-        13 => Bounds::EitherSide(MOST_Y), // y
-        14 => Bounds::FromTo(0, MOST_Z), // z
-        15 => Bounds::FromTo(1, 10_000), // length
-        16 => Bounds::FromTo(1, 8_000), // breadth
-        17 => Bounds::FromTo(1, 1_500), // liquid density
-        18 => Bounds::FromTo(20, 10_000), // row: draft
-        19 => Bounds::FromTo(1, 17_600_000), // displacement
-        20 => Bounds::FromTo(0, 100_000), // LCB
-        21 => Bounds::FromTo(0, 10_000), // KB
-        22 => Bounds::FromTo(0, 100_000), // BM
-        23 => Bounds::FromTo(0, HIGHEST_METACENTRE), // KM
-        24 => Bounds::FromTo(0, 1_600_000_000), // waterplane area
-        _ => Bounds::FromTo(1, 0),
+        0 => Bounds(2, MOST_LENGTH_INTERVALS, FROM_0), // n
+        1 => Bounds(3, MOST_DRAFT_INTERVALS, FROM_0), // m
+        2 => Bounds(50, 2_500, FROM_0), // s
+        3 => Bounds(10, 500, FROM_0), // d
+        4 => Bounds(900, 1_100, FROM_0), // density
+        5 => Bounds(0, 8_000, FROM_0), // half-breadth
+        6 => Bounds(0, 300_000, FROM_0), // item: kg
+        7 => Bounds(0, MOST_X, FROM_0), // x
+        8 => Bounds(0, MOST_Y, EITHER_SIDE), // y
+        9 => Bounds(0, MOST_Z, FROM_0), // z
+        10 => Bounds(0, 400_000, FROM_0), // tank: contents
+        11 => Bounds(1, 400_000, FROM_0), // capacity
+        12 => Bounds(0, MOST_X, FROM_0), // x
+        13 => Bounds(0, MOST_Y, EITHER_SIDE), // y
+        14 => Bounds(0, MOST_Z, FROM_0), // z
+        15 => Bounds(1, 10_000, FROM_0), // length
+        16 => Bounds(1, 8_000, FROM_0), // breadth
+        17 => Bounds(1, 1_500, FROM_0), // liquid density
+        18 => Bounds(20, 10_000, FROM_0), // row: draft
+        19 => Bounds(1, 17_600_000, FROM_0), // displacement
+        20 => Bounds(0, 100_000, FROM_0), // LCB
+        21 => Bounds(0, 10_000, FROM_0), // KB
+        22 => Bounds(0, 100_000, FROM_0), // BM
+        23 => Bounds(0, HIGHEST_METACENTRE, FROM_0), // KM
+        24 => Bounds(0, 1_600_000_000, FROM_0), // waterplane area
+        _ => Bounds(1, 0, FROM_0),
     }
 }
 
@@ -187,24 +188,22 @@ pub fn is_between(n: u64, least: u64, greatest: u64) -> bool
 pub fn whole_in_range(field: usize, n: u64) -> bool
     ensures { λ r. ⌜ r ≡ within (rangeOf field) (pos n) ⌝ }
 {
-    match bounds_of(field) {
-        Bounds::FromTo(least, greatest) => is_between(n, least, greatest),
-        Bounds::EitherSide(greatest) => n <= greatest,
-    }
+    let bounds = bounds_of(field);
+    is_between(n, bounds.0, bounds.1)
 }
 
 // Whether a number of either sign is in a field's range.
 pub fn in_range(field: usize, v: i64) -> bool
     ensures { λ r. ⌜ r ≡ within (rangeOf field) v ⌝ }
 {
-    let size = arithmetic::magnitude(v);
-    if !arithmetic::is_negative(v) {
-        return whole_in_range(field, size);
+    if arithmetic::is_negative(v) {
+        let bounds = bounds_of(field);
+        if bounds.2 {
+            return arithmetic::magnitude(v) <= bounds.1;
+        }
+        return false;
     }
-    match bounds_of(field) {
-        Bounds::FromTo(_, _) => false,
-        Bounds::EitherSide(greatest) => size <= greatest,
-    }
+    whole_in_range(field, arithmetic::magnitude(v))
 }
 
 // y's two sides.

@@ -5,11 +5,12 @@ use Prim.Native.Nat.{ℕ, zero, suc, _≤_}
 use native.Mathlib.Omega.{arith}
 use lib.ListN.{length, List·getD-eq-default}
 use Rattle.ranges.specs.Fields.{_to_, fields, rangeOf}
+use Rattle.ranges.specs.Private.Bounds.{boundsOf}
 use Rattle.ranges.proofs.bounds_of.Statement.{statement}
 use Rattle.ranges.proofs.bounds_of.Tie as tie
 
-at-field : {field k : ℕ} → field ≡ k → rangeOf k ≡ rangeOf field
-at-field e = ap rangeOf (sym e)
+at-field : {field k : ℕ} → field ≡ k → boundsOf (rangeOf k) ≡ boundsOf (rangeOf field)
+at-field e = ap (λ f. boundsOf (rangeOf f)) (sym e)
 
 -- the field is none of the first k, so it comes after them
 abbrev NoneOf : ℕ → ℕ → Type 0
@@ -20,8 +21,8 @@ none-of-le : (k field : ℕ) → NoneOf k field → k ≤ field
 none-of-le zero field none = omega arith
 none-of-le (suc k) field none = omega (arith, none-of-le k field (none .0), none .1)
 
-beyond-last : (field : ℕ) → NoneOf (length fields) field → 1 to 0 ≡ rangeOf field
-beyond-last field none = sym (List·getD-eq-default fields (1 to 0) (none-of-le (length fields) field none))
+beyond-last : (field : ℕ) → NoneOf (length fields) field → boundsOf (1 to 0) ≡ boundsOf (rangeOf field)
+beyond-last field none = ap boundsOf (sym (List·getD-eq-default fields (1 to 0) (none-of-le (length fields) field none)))
 
 pub bounds-of-spec : {M : Type 1} → statement M
 bounds-of-spec =
