@@ -20,7 +20,9 @@ use Rattle.offsets.specs.Reader as Reader
 use Rattle.offsets.specs.Writer.{Writes, writerOf, lengthOf, roomAfter}
 use Rattle.offsets.specs.Writer as Writer
 use Rattle.offsets.specs.declared.Read.{Read}
+use Rattle.offsets.specs.declared.Read.the-variants as Read
 use Rattle.offsets.specs.declared.Written.{Written}
+use Rattle.offsets.specs.declared.Written.the-variants as Written
 use Rattle.offsets.proofs.Numbered.{reader-numbered, writer-numbered, summarised-numbered, length-numbered}
 use Rattle.offsets.proofs.Unique.{reads-unique, writes-unique}
 use Rattle.hydrostatics.specs.Display as Display
@@ -29,27 +31,31 @@ use Rattle.hydrostatics.specs.Promise.{MakesRows, countOf, tableAfter}
 use Rattle.hydrostatics.specs.Promise as Rows
 use Rattle.hydrostatics.specs.Rows.{rowsOf}
 use Rattle.hydrostatics.specs.declared.Display.{Display as Displayed}
+use Rattle.hydrostatics.specs.declared.Display.the-variants as Displayed
 use Rattle.hydrostatics.specs.declared.Row.{Row}
 use Rattle.hydrostatics.specs.declared.Rows.{Rows as MadeOrNot}
+use Rattle.hydrostatics.specs.declared.Rows.the-variants as MadeOrNot
 use Rattle.hydrostatics.proofs.Numbered.{rows-numbered, count-numbered, display-numbered}
 use Rattle.hydrostatics.proofs.Unique.{makes-rows-unique, display-unique}
 use Rattle.loading.specs.Condition.{conditionOf}
 use Rattle.loading.specs.Promise as Condition
+use Rattle.loading.specs.declared.Answer.the-variants as Answer
 use Rattle.loading.proofs.Numbered.{condition-numbered}
 use Rattle.loading.proofs.Unique.{makes-condition-unique}
 use Rattle.report.specs.Promise.{Reports, reportOf}
 use Rattle.report.specs.Promise as Report
 use Rattle.report.specs.Sheet.{sheetOf}
 use Rattle.report.specs.declared.Report.{Report as Reported}
+use Rattle.report.specs.declared.Report.the-variants as Reported
 use Rattle.report.proofs.Numbered.{report-numbered}
 use Rattle.report.proofs.Unique.{reports-unique}
 use Rattle.demands.specs.Answering.{AnswersOrRefuses}
 use Rattle.demands.specs.Demands.{Conditioned}
-use Rattle.demands.proofs.Backs.{report-of, report-paper, read-of, read-paper, written-of, written-paper, rows-of, rows-paper, display-of, display-paper, condition-of, condition-paper, summary-refused, length-refused, count-refused, two-same, four-same}
+use Rattle.demands.proofs.Backs.{Told, told, summary-refused, length-refused, count-refused, two-same, four-same}
 
--- an outcome that is told has the numbers of the one it tells
-numbered-as : {A : Type 0} {told o : Outcome A} → told ≡ o → Numbered o → Numbered told
-numbered-as e h = subst Numbered (sym e) h
+-- an answer's outcome has the numbers of the one it tells
+numbered-as : {Answer Values : Type 0} {paper : Answer → Outcome Values} {o : Outcome Values} (t : Told paper o) → Numbered o → Numbered (paper (t .answer))
+numbered-as t h = subst Numbered (sym (t .is)) h
 
 -- ---- the sheet
 module _ (text room : List ℕ) where
@@ -63,14 +69,15 @@ module _ (text room : List ℕ) where
 
   pub sheet-answers : AnswersOrRefuses (λ (back : Reported × List ℕ). Reports text room (back .1) (back .0)) (λ back. Report.paper (back .0)) (λ back. back .1 ≡ room)
   sheet-answers =
-      let back : Reported × List ℕ = (report-of reported, laid (sheetOf text) room) in
-      let kept : Reports text room (back .1) (back .0) = record { answer-is = report-paper reported; left = refl } in
+      let t = told Report.paper Reported.Lines Reported.Refused (λ v. refl) (λ r. refl) reported in
+      let back : Reported × List ℕ = (t .answer, laid (sheetOf text) room) in
+      let kept : Reports text room (back .1) (back .0) = record { answer-is = t .is; left = refl } in
       record {
         back = back;
         kept = kept;
         only = λ other k. two-same other back (reports-unique k kept);
-        numbered = numbered-as (report-paper reported) (report-numbered text (length room));
-        untouched = λ e. sheet-short (sym (report-paper reported) ∙ e);
+        numbered = numbered-as t (report-numbered text (length room));
+        untouched = λ e. sheet-short (sym (t .is) ∙ e);
       }
 
 -- ---- the reader
@@ -84,15 +91,16 @@ module _ (text halfBreadths : List ℕ) (items tanks : List ℤ) where
 
   pub reader-answers : AnswersOrRefuses (λ (back : Read × List ℕ × List ℤ × List ℤ). Reads text halfBreadths (back .1) items (back .2) tanks (back .3) (back .0)) (λ back. Reader.paper (back .0)) (λ back. (back .1 ≡ halfBreadths) × (back .2 ≡ items) × (back .3 ≡ tanks))
   reader-answers =
-      let back : Read × List ℕ × List ℤ × List ℤ = (read-of (summarised read), filled (λ c. map natAbs (c .halfBreadths)) read halfBreadths, filled (λ c. c .items) read items, filled (λ c. c .tanks) read tanks) in
-      let kept : Reads text halfBreadths (back .1) items (back .2) tanks (back .3) (back .0) = record { answer-is = read-paper (summarised read); tables-are = record { half-breadths-left = refl; items-left = refl; tanks-left = refl } } in
+      let t = told Reader.paper Read.Sheet Read.Refused (λ v. refl) (λ r. refl) (summarised read) in
+      let back : Read × List ℕ × List ℤ × List ℤ = (t .answer, filled (λ c. map natAbs (c .halfBreadths)) read halfBreadths, filled (λ c. c .items) read items, filled (λ c. c .tanks) read tanks) in
+      let kept : Reads text halfBreadths (back .1) items (back .2) tanks (back .3) (back .0) = record { answer-is = t .is; tables-are = record { half-breadths-left = refl; items-left = refl; tanks-left = refl } } in
       record {
         back = back;
         kept = kept;
         only = λ other k. four-same other back (reads-unique k kept);
-        numbered = numbered-as (read-paper (summarised read)) (summarised-numbered read (reader-numbered text (length halfBreadths) (length items) (length tanks)));
+        numbered = numbered-as t (summarised-numbered read (reader-numbered text (length halfBreadths) (length items) (length tanks)));
         untouched = λ e.
-            let so = summary-refused read (sym (read-paper (summarised read)) ∙ e) in
+            let so = summary-refused read (sym (t .is) ∙ e) in
             (filled-refused _ halfBreadths so, filled-refused _ items so, filled-refused _ tanks so);
       }
 
@@ -107,14 +115,15 @@ module _ (p : Particulars) (halfBreadths : List ℕ) (items tanks : List ℤ) (r
 
   pub writer-answers : AnswersOrRefuses (λ (back : Written × List ℕ). Writes p halfBreadths items tanks room (back .1) (back .0)) (λ back. Writer.paper (back .0)) (λ back. back .1 ≡ room)
   writer-answers =
-      let back : Written × List ℕ = (written-of (lengthOf text), roomAfter text room) in
-      let kept : Writes p halfBreadths items tanks room (back .1) (back .0) = record { answer-is = written-paper (lengthOf text); left = refl } in
+      let t = told Writer.paper Written.Wrote Written.Refused (λ v. refl) (λ r. refl) (lengthOf text) in
+      let back : Written × List ℕ = (t .answer, roomAfter text room) in
+      let kept : Writes p halfBreadths items tanks room (back .1) (back .0) = record { answer-is = t .is; left = refl } in
       record {
         back = back;
         kept = kept;
         only = λ other k. two-same other back (writes-unique k kept);
-        numbered = numbered-as (written-paper (lengthOf text)) (length-numbered text (writer-numbered p halfBreadths items tanks (length room)));
-        untouched = λ e. room-refused (length-refused text (sym (written-paper (lengthOf text)) ∙ e));
+        numbered = numbered-as t (length-numbered text (writer-numbered p halfBreadths items tanks (length room)));
+        untouched = λ e. room-refused (length-refused text (sym (t .is) ∙ e));
       }
 
 -- ---- the rows
@@ -128,34 +137,37 @@ module _ (halfBreadths : List ℕ) (p : Particulars) (rows : List ℕ) where
 
   pub rows-answer : AnswersOrRefuses (λ (back : MadeOrNot × List ℕ). MakesRows halfBreadths p rows (back .1) (back .0)) (λ back. Rows.paper (back .0)) (λ back. back .1 ≡ rows)
   rows-answer =
-      let back : MadeOrNot × List ℕ = (rows-of (countOf numbers), tableAfter numbers rows) in
-      let kept : MakesRows halfBreadths p rows (back .1) (back .0) = record { answer-is = rows-paper (countOf numbers); left = refl } in
+      let t = told Rows.paper MadeOrNot.Made MadeOrNot.Refused (λ v. refl) (λ r. refl) (countOf numbers) in
+      let back : MadeOrNot × List ℕ = (t .answer, tableAfter numbers rows) in
+      let kept : MakesRows halfBreadths p rows (back .1) (back .0) = record { answer-is = t .is; left = refl } in
       record {
         back = back;
         kept = kept;
         only = λ other k. two-same other back (makes-rows-unique k kept);
-        numbered = numbered-as (rows-paper (countOf numbers)) (count-numbered numbers (rows-numbered halfBreadths p (length rows)));
-        untouched = λ e. table-refused (count-refused numbers (sym (rows-paper (countOf numbers)) ∙ e));
+        numbered = numbered-as t (count-numbered numbers (rows-numbered halfBreadths p (length rows)));
+        untouched = λ e. table-refused (count-refused numbers (sym (t .is) ∙ e));
       }
 
 -- ---- the display and the condition
 pub display-answers : (row : Row) → AnswersOrRefuses (λ (answer : Displayed). Display.paper answer ≡ displayOf row) Display.paper (λ answer. Unit)
-display-answers row = record {
-  back = display-of (displayOf row);
-  kept = display-paper (displayOf row);
-  only = λ other k. display-unique row k (display-paper (displayOf row));
-  numbered = numbered-as (display-paper (displayOf row)) (display-numbered row);
-  untouched = λ e. tt;
-}
+display-answers row =
+    let t = told Display.paper Displayed.Shown Displayed.Refused (λ v. refl) (λ r. refl) (displayOf row) in
+    record {
+      back = t .answer;
+      kept = t .is;
+      only = λ other k. display-unique row k (t .is);
+      numbered = numbered-as t (display-numbered row);
+      untouched = λ e. tt;
+    }
 
 pub condition-answers : (items tanks : List ℤ) (rows : List ℕ) → AnswersOrRefuses (Conditioned items tanks rows) Condition.paper (λ answer. Unit)
 condition-answers items tanks rows =
-    let o = conditionOf items tanks rows in
-    let kept : Conditioned items tanks rows (condition-of o) = record { least-gm-is = refl; heel-limit-is = refl; answer-is = condition-paper o } in
+    let t = told Condition.paper Answer.Laden Answer.Refused (λ v. refl) (λ r. refl) (conditionOf items tanks rows) in
+    let kept : Conditioned items tanks rows (t .answer) = record { least-gm-is = refl; heel-limit-is = refl; answer-is = t .is } in
     record {
-      back = condition-of o;
+      back = t .answer;
       kept = kept;
       only = λ other k. makes-condition-unique k kept;
-      numbered = numbered-as (condition-paper o) (condition-numbered items tanks rows);
+      numbered = numbered-as t (condition-numbered items tanks rows);
       untouched = λ e. tt;
     }
