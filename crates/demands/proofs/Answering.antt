@@ -10,12 +10,13 @@ use lib.IntN.{ℤ, natAbs}
 use lib.ListN.{length}
 use Rattle.arithmetic.specs.Room.{laid}
 use Rattle.arithmetic.proofs.Room.{laid-short}
-use Rattle.ranges.specs.Outcome.{Outcome, refused, Numbered}
+use Rattle.ranges.specs.Outcome.{Outcome, refused, Numbered, leftWith}
 use Rattle.ranges.specs.Refusals.{roomTooShort}
-use Rattle.ranges.proofs.Outcomes.{was-refused}
+use Rattle.ranges.proofs.Outcomes.{was-refused, with-refused, left-refused}
 use Rattle.ranges.specs.declared.Particulars.{Particulars}
+use Rattle.ranges.proofs.Numbered.{with-numbered}
 use Rattle.offsets.specs.File.{Contents}
-use Rattle.offsets.specs.Reader.{Reads, readerOf, summarised, filled}
+use Rattle.offsets.specs.Reader.{Reads, readerOf, summaryOf, summarised}
 use Rattle.offsets.specs.Reader as Reader
 use Rattle.offsets.specs.Writer.{Writes, writerOf, lengthOf, roomAfter}
 use Rattle.offsets.specs.Writer as Writer
@@ -23,11 +24,11 @@ use Rattle.offsets.specs.declared.Read.{Read}
 use Rattle.offsets.specs.declared.Read.the-variants as Read
 use Rattle.offsets.specs.declared.Written.{Written}
 use Rattle.offsets.specs.declared.Written.the-variants as Written
-use Rattle.offsets.proofs.Numbered.{reader-numbered, writer-numbered, summarised-numbered, length-numbered}
+use Rattle.offsets.proofs.Numbered.{reader-numbered, writer-numbered}
 use Rattle.offsets.proofs.Unique.{reads-unique, writes-unique}
 use Rattle.hydrostatics.specs.Display as Display
 use Rattle.hydrostatics.specs.Display.{displayOf}
-use Rattle.hydrostatics.specs.Promise.{MakesRows, countOf, tableAfter}
+use Rattle.hydrostatics.specs.Promise.{MakesRows, rowCount, countOf, tableAfter}
 use Rattle.hydrostatics.specs.Promise as Rows
 use Rattle.hydrostatics.specs.Rows.{rowsOf}
 use Rattle.hydrostatics.specs.declared.Display.{Display as Displayed}
@@ -35,7 +36,7 @@ use Rattle.hydrostatics.specs.declared.Display.the-variants as Displayed
 use Rattle.hydrostatics.specs.declared.Row.{Row}
 use Rattle.hydrostatics.specs.declared.Rows.{Rows as MadeOrNot}
 use Rattle.hydrostatics.specs.declared.Rows.the-variants as MadeOrNot
-use Rattle.hydrostatics.proofs.Numbered.{rows-numbered, count-numbered, display-numbered}
+use Rattle.hydrostatics.proofs.Numbered.{rows-numbered, display-numbered}
 use Rattle.hydrostatics.proofs.Unique.{makes-rows-unique, display-unique}
 use Rattle.loading.specs.Condition.{conditionOf}
 use Rattle.loading.specs.Promise as Condition
@@ -51,7 +52,7 @@ use Rattle.report.proofs.Numbered.{report-numbered}
 use Rattle.report.proofs.Unique.{reports-unique}
 use Rattle.demands.specs.Answering.{AnswersOrRefuses}
 use Rattle.demands.specs.Demands.{Conditioned}
-use Rattle.demands.proofs.Backs.{Told, told, summary-refused, length-refused, count-refused, two-same, four-same}
+use Rattle.demands.proofs.Backs.{Told, told, two-same, four-same}
 
 -- an answer's outcome has the numbers of the one it tells
 numbered-as : {Answer Values : Type 0} {paper : Answer → Outcome Values} {o : Outcome Values} (t : Told paper o) → Numbered o → Numbered (paper (t .answer))
@@ -85,33 +86,25 @@ module _ (text halfBreadths : List ℕ) (items tanks : List ℤ) where
   abbrev read : Outcome Contents
   read = readerOf text (length halfBreadths) (length items) (length tanks)
 
-  filled-refused : {A : Type 0} (part : Contents → List A) (was : List A) {number place : ℕ} → read ≡ refused number place → filled part read was ≡ was
-  unfolding filled
-  filled-refused part was e = rw e
-
   pub reader-answers : AnswersOrRefuses (λ (back : Read × List ℕ × List ℤ × List ℤ). Reads text halfBreadths (back .1) items (back .2) tanks (back .3) (back .0)) (λ back. Reader.paper (back .0)) (λ back. (back .1 ≡ halfBreadths) × (back .2 ≡ items) × (back .3 ≡ tanks))
   reader-answers =
       let t = told Reader.paper Read.Sheet Read.Refused (λ v. refl) (λ r. refl) (summarised read) in
-      let back : Read × List ℕ × List ℤ × List ℤ = (t .answer, filled (λ c. map natAbs (c .halfBreadths)) read halfBreadths, filled (λ c. c .items) read items, filled (λ c. c .tanks) read tanks) in
+      let back : Read × List ℕ × List ℤ × List ℤ = (t .answer, leftWith (λ c. map natAbs (c .halfBreadths)) read halfBreadths, leftWith (λ c. c .items) read items, leftWith (λ c. c .tanks) read tanks) in
       let kept : Reads text halfBreadths (back .1) items (back .2) tanks (back .3) (back .0) = record { answer-is = t .is; tables-are = record { half-breadths-left = refl; items-left = refl; tanks-left = refl } } in
       record {
         back = back;
         kept = kept;
         only = λ other k. four-same other back (reads-unique k kept);
-        numbered = numbered-as t (summarised-numbered read (reader-numbered text (length halfBreadths) (length items) (length tanks)));
+        numbered = numbered-as t (with-numbered summaryOf read (reader-numbered text (length halfBreadths) (length items) (length tanks)));
         untouched = λ e.
-            let so = summary-refused read (sym (t .is) ∙ e) in
-            (filled-refused _ halfBreadths so, filled-refused _ items so, filled-refused _ tanks so);
+            let so = with-refused summaryOf read (sym (t .is) ∙ e) in
+            (left-refused _ read halfBreadths so, left-refused _ read items so, left-refused _ read tanks so);
       }
 
 -- ---- the writer
 module _ (p : Particulars) (halfBreadths : List ℕ) (items tanks : List ℤ) (room : List ℕ) where
   abbrev text : Outcome (List ℕ)
   text = writerOf p halfBreadths items tanks (length room)
-
-  room-refused : {number place : ℕ} → text ≡ refused number place → roomAfter text room ≡ room
-  unfolding roomAfter
-  room-refused e = rw e
 
   pub writer-answers : AnswersOrRefuses (λ (back : Written × List ℕ). Writes p halfBreadths items tanks room (back .1) (back .0)) (λ back. Writer.paper (back .0)) (λ back. back .1 ≡ room)
   writer-answers =
@@ -122,18 +115,14 @@ module _ (p : Particulars) (halfBreadths : List ℕ) (items tanks : List ℤ) (r
         back = back;
         kept = kept;
         only = λ other k. two-same other back (writes-unique k kept);
-        numbered = numbered-as t (length-numbered text (writer-numbered p halfBreadths items tanks (length room)));
-        untouched = λ e. room-refused (length-refused text (sym (t .is) ∙ e));
+        numbered = numbered-as t (with-numbered length text (writer-numbered p halfBreadths items tanks (length room)));
+        untouched = λ e. left-refused _ text room (with-refused length text (sym (t .is) ∙ e));
       }
 
 -- ---- the rows
 module _ (halfBreadths : List ℕ) (p : Particulars) (rows : List ℕ) where
   abbrev numbers : Outcome (List ℕ)
   numbers = rowsOf halfBreadths p (length rows)
-
-  table-refused : {number place : ℕ} → numbers ≡ refused number place → tableAfter numbers rows ≡ rows
-  unfolding tableAfter
-  table-refused e = rw e
 
   pub rows-answer : AnswersOrRefuses (λ (back : MadeOrNot × List ℕ). MakesRows halfBreadths p rows (back .1) (back .0)) (λ back. Rows.paper (back .0)) (λ back. back .1 ≡ rows)
   rows-answer =
@@ -144,8 +133,8 @@ module _ (halfBreadths : List ℕ) (p : Particulars) (rows : List ℕ) where
         back = back;
         kept = kept;
         only = λ other k. two-same other back (makes-rows-unique k kept);
-        numbered = numbered-as t (count-numbered numbers (rows-numbered halfBreadths p (length rows)));
-        untouched = λ e. table-refused (count-refused numbers (sym (t .is) ∙ e));
+        numbered = numbered-as t (with-numbered rowCount numbers (rows-numbered halfBreadths p (length rows)));
+        untouched = λ e. left-refused _ numbers rows (with-refused rowCount numbers (sym (t .is) ∙ e));
       }
 
 -- ---- the display and the condition

@@ -1,18 +1,10 @@
 -- What keeps a promise, made from the outcome that the promise names.
---     Told, told                                          the answer with given values, or with a given refusal, by the two cases that every answer has
---     summary-refused, length-refused, count-refused      a refusal in place of a part is one of the whole
---     two-same, four-same                                 what is handed back is known from its parts
+--     Told, told               the answer with given values, or with a given refusal, by the two cases that every answer has
+--     two-same, four-same      what is handed back is known from its parts
 -- Assumes nothing.
-use mathlib.Core.Path.{_≡_, refl, sym, ap₂}
-use mathlib.Core.List.{List}
-use Prim.Native.Nat.{ℕ}
+use mathlib.Core.Path.{_≡_, ap₂}
 use Rattle.ranges.specs.Outcome.{Outcome, answered, refused}
 use Rattle.ranges.specs.declared.Refusal.{Refusal}
-use Rattle.ranges.proofs.Outcomes.{refused-not}
-use Rattle.offsets.specs.File.{Contents}
-use Rattle.offsets.specs.Reader.{summarised}
-use Rattle.offsets.specs.Writer.{lengthOf}
-use Rattle.hydrostatics.specs.Promise.{countOf}
 
 -- ---- answers
 -- an answer that has the paper's number and values of an outcome
@@ -26,22 +18,6 @@ module _ {Answer Values : Type 0} (paper : Answer → Outcome Values) (given : V
   told values refusals (refused number place) =
       let r : Refusal = record { number = number; place = place } in
       record { answer = declined r; is = refusals r }
-
--- ---- refusals
-pub summary-refused : (o : Outcome Contents) {number place : ℕ} → summarised o ≡ refused number place → o ≡ refused number place
-unfolding summarised
-summary-refused (answered c) e = refused-not (sym e)
-summary-refused (refused number place) e = cc
-
-pub length-refused : (o : Outcome (List ℕ)) {number place : ℕ} → lengthOf o ≡ refused number place → o ≡ refused number place
-unfolding lengthOf
-length-refused (answered text) e = refused-not (sym e)
-length-refused (refused number place) e = cc
-
-pub count-refused : (o : Outcome (List ℕ)) {number place : ℕ} → countOf o ≡ refused number place → o ≡ refused number place
-unfolding countOf
-count-refused (answered numbers) e = refused-not (sym e)
-count-refused (refused number place) e = cc
 
 -- ---- parts
 pub two-same : {A B : Type 0} (one other : A × B) → (one .0 ≡ other .0) × (one .1 ≡ other .1) → one ≡ other

@@ -14,7 +14,7 @@ use lib.ListN.{length}
 use Rattle.arithmetic.proofs.Choice.{chosen}
 use Rattle.ranges.specs.Fields.{particulars, halfBreadth}
 use Rattle.ranges.specs.Private.InRange.{ParticularsInRange}
-use Rattle.ranges.specs.Outcome.{refused}
+use Rattle.ranges.specs.Outcome.{refused, answerWith, leftWith}
 use Rattle.ranges.specs.Outside.{firstOutside, numbersOf}
 use Rattle.ranges.specs.Refusals.{outOfRange, wrongSize, placeOfHalfBreadths, halfBreadthTable, rowTable}
 use Rattle.ranges.specs.Sizes.{pointsOf, rowWidth, rowsOver}
@@ -70,7 +70,7 @@ module _ (table : List ℕ) (p : Particulars) (room : ℕ) {particular : ℕ} (f
 -- ---- the promise
 module _ {table : List ℕ} {p : Particulars} {rows : List ℕ} {answer : Rows} where
   pub refuses : {number place : ℕ} → rowsOf table p (length rows) ≡ refused number place → paper answer ≡ refused number place → MakesRows table p rows rows answer
-  unfolding countOf tableAfter
+  unfolding answerWith leftWith
   refuses e f = record { answer-is = rw e f; left = rw e }
 
   pub makes : {after : List ℕ} → rowsOf table p (length rows) ≡ rowsUpTo table p (rowsOver (p .m)) → FillsRows table p rows after answer → MakesRows table p rows after answer

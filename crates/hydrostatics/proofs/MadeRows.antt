@@ -8,6 +8,7 @@ use native.Mathlib.Omega.{arith}
 use lib.ListN.{length}
 use Rattle.ranges.specs.Sizes.{rowWidth, rowsOver}
 use Rattle.ranges.specs.declared.Particulars.{Particulars}
+use Rattle.ranges.specs.Outcome.{leftWith}
 use Rattle.hydrostatics.specs.Promise.{tableAfter, MakesRows}
 use Rattle.hydrostatics.specs.Row.{rowOf}
 use Rattle.hydrostatics.specs.Rows.{rowsOf}
@@ -18,7 +19,7 @@ use Rattle.hydrostatics.proofs.Reading.{numbers-part, row-in}
 use Rattle.hydrostatics.proofs.Usable.{answered-rows, served}
 
 pub made-rows : {table : List ℕ} {p : Particulars} {rows after : List ℕ} {count : ℕ} → MakesRows table p rows after (Made count) → (count ≡ rowsOver (p .m)) × ((r : ℕ) → r < count → rowIn after r ≡ rowOf table p r)
-unfolding tableAfter
+unfolding leftWith
 made-rows {table} {p} {rows} {after} {count} made =
     counted (rowsOf table p (length rows)) (made .answer-is) (λ numbers so e.
     let long = served table p (length rows) so .long in

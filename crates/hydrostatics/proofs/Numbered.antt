@@ -1,17 +1,15 @@
 -- What rows, display and a table's use refuse has one of the paper's numbers.
 --     up-to-numbered, rows-numbered     the rows of a hull
---     count-numbered                    and what is answered of them
 --     display-numbered                  the display of a row
 --     usable-numbered                   the use of a table of rows
 -- Assumes nothing.
 use Prim.Native.Nat.{ℕ, zero, suc}
 use mathlib.Core.List.{List}
-use Rattle.ranges.specs.Outcome.{Outcome, answered, refused, Numbered}
+use Rattle.ranges.specs.Outcome.{Numbered}
 use Rattle.ranges.specs.Sizes.{rowsOver}
 use Rattle.ranges.specs.declared.Particulars.{Particulars}
-use Rattle.ranges.proofs.Numbered.{numbered, answered-numbered, passed-on, then-numbered}
+use Rattle.ranges.proofs.Numbered.{numbered, then-numbered}
 use Rattle.hydrostatics.specs.Display.{displayOf}
-use Rattle.hydrostatics.specs.Promise.{countOf}
 use Rattle.hydrostatics.specs.Rows.{rowsUpTo, rowsOf}
 use Rattle.hydrostatics.specs.Usable.{usableUpTo}
 use Rattle.hydrostatics.specs.declared.Row.{Row}
@@ -25,11 +23,6 @@ module _ (table : List ℕ) (p : Particulars) where
   pub rows-numbered : (room : ℕ) → Numbered (rowsOf table p room)
   unfolding rowsOf
   rows-numbered room = let rest = up-to-numbered (rowsOver (p .m)) in search numbered depth 8
-
-pub count-numbered : (o : Outcome (List ℕ)) → Numbered o → Numbered (countOf o)
-unfolding countOf
-count-numbered (answered numbers) h = answered-numbered _
-count-numbered (refused number place) h = passed-on h
 
 pub display-numbered : (row : Row) → Numbered (displayOf row)
 unfolding displayOf

@@ -1,6 +1,6 @@
 -- What an answer of the rows tells.
 --     Passed, passed           every row among the first `count` has passed 8 and 9, and the numbers are theirs
---     counted, refused-count   what a row count, and a refusal in its place, tell of the rows
+--     counted                  what a row count tells of the rows
 --     made-count               the answer carries the row count
 --     made-left, refused-left  the table after a success, by the rows that were kept, and after a refusal
 -- Assumes nothing.
@@ -15,18 +15,18 @@ use lib.ListN.{length, getD, drop}
 use native.Mathlib.Numerals.{add-one}
 use Rattle.arithmetic.specs.Choice.{if_then_else_}
 use Rattle.ranges.specs.Fields.{highestMetacentre}
-use Rattle.ranges.specs.Outcome.{Outcome, answered, refused}
+use Rattle.ranges.specs.Outcome.{Outcome, answered, refused, leftWith}
 use Rattle.ranges.specs.Refusals.{displacementNotRising, metacentreTooHigh}
 use Rattle.ranges.specs.Sizes.{rowWidth, rowsOver}
 use Rattle.ranges.specs.declared.Particulars.{Particulars}
-use Rattle.hydrostatics.specs.Promise.{paper, countOf, tableAfter}
+use Rattle.hydrostatics.specs.Promise.{paper, countOf, tableAfter, rowCount}
 use Rattle.hydrostatics.specs.Row.{rowOf, numbersOf}
 use Rattle.hydrostatics.specs.Rows.{displacementBefore, rowsUpTo}
 use Rattle.hydrostatics.specs.Private.Table.{noRow, numbersUpTo, TriedRows, FillsRows}
 use Rattle.hydrostatics.specs.declared.Rows.the-variants.{Made, Refused}
 use Rattle.hydrostatics.specs.declared.table.Tried.{Tried}
 use Rattle.ranges.specs.declared.Refusal.{Refusal}
-use Rattle.ranges.proofs.Outcomes.{refused-not, not-refused, answered-then}
+use Rattle.ranges.proofs.Outcomes.{refused-not, not-refused, answered-then, with-answered, with-refused, left-refused}
 use Rattle.hydrostatics.proofs.Writing.{numbers-length, numbers-same}
 
 below-suc : {P : ℕ → Type 0} (r : ℕ) → ((i : ℕ) → i < r → P i) → P r → (i : ℕ) → i < suc r → P i
@@ -61,15 +61,7 @@ module _ {table : List ℕ} {p : Particulars} where
 -- ---- what is left of the lent table
 -- an outcome with a count has numbers
 pub counted : {X : Type 0} (o : Outcome (List ℕ)) {count : ℕ} → answered count ≡ countOf o → ((numbers : List ℕ) → o ≡ answered numbers → count ≡ length numbers / rowWidth → X) → X
-unfolding countOf
-counted (answered numbers) e on = on numbers refl cc
-counted (refused number place) e on = refused-not (sym e)
-
--- a refusal in place of the count is one of the rows
-pub refused-count : (o : Outcome (List ℕ)) {number place : ℕ} → refused number place ≡ countOf o → o ≡ refused number place
-unfolding countOf
-refused-count (answered numbers) e = refused-not e
-refused-count (refused number place) e = cc
+counted o e on = let x = with-answered rowCount o (sym e) in on (x .0) (x .1) (x .2)
 
 module _ {table : List ℕ} {p : Particulars} {tried : Tried} (so : TriedRows table p tried) where
   module _ {count : ℕ} (made : tried .answer ≡ Made count) where
@@ -85,7 +77,7 @@ module _ {table : List ℕ} {p : Particulars} {tried : Tried} (so : TriedRows ta
     made-count = all .0
 
     pub made-left : {was after : List ℕ} → after ≡ numbersUpTo (λ r. getD (tried .rows) r noRow) count ++ drop (rowWidth * count) was → FillsRows table p was after (Made count)
-    unfolding tableAfter
+    unfolding leftWith
     made-left {was} e = record {
       answer-is = sym (ap paper made) ∙ so .answer-is;
       left =
@@ -94,5 +86,6 @@ module _ {table : List ℕ} {p : Particulars} {tried : Tried} (so : TriedRows ta
     }
 
   pub refused-left : {r : Refusal} {was : List ℕ} → tried .answer ≡ Refused r → FillsRows table p was was (tried .answer)
-  unfolding tableAfter
-  refused-left e = record { answer-is = so .answer-is; left = rw (refused-count (rowsUpTo table p (rowsOver (p .m))) (sym (ap paper e) ∙ so .answer-is)) }
+  refused-left {was = was} e =
+      let rows = rowsUpTo table p (rowsOver (p .m)) in
+      record { answer-is = so .answer-is; left = sym (left-refused (λ numbers. numbers) rows was (with-refused rowCount rows (sym (so .answer-is) ∙ ap paper e))) }

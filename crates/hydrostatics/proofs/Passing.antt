@@ -16,7 +16,7 @@ use lib.ListN.{length, set}
 use Rattle.arithmetic.specs.Choice.{if_then_else_}
 use Rattle.arithmetic.proofs.Choice.{chosen}
 use Rattle.ranges.specs.Fields.{highestMetacentre}
-use Rattle.ranges.specs.Outcome.{answered, refused, andThen}
+use Rattle.ranges.specs.Outcome.{answered, refused, andThen, answerWith}
 use Rattle.ranges.specs.Refusals.{displacementNotRising, metacentreTooHigh}
 use Rattle.ranges.specs.Sizes.{rowWidth, rowsOver, mostRows}
 use Rattle.ranges.specs.declared.Particulars.{Particulars}
@@ -71,14 +71,14 @@ module _ {table : List ℕ} {p : Particulars} where
 -- ---- what is answered
 module _ {table : List ℕ} {p : Particulars} {rows : List Row} where
   pub refusal : {number place : ℕ} {answer : Rows} → rowsUpTo table p (rowsOver (p .m)) ≡ refused number place → paper answer ≡ refused number place → TriedRows table p (record { rows = rows; answer = answer })
-  unfolding countOf
+  unfolding answerWith
   refusal e f = record {
     answer-is = rw e f;
     rows-are = λ count g. refused-not (sym f ∙ ap paper g);
   }
 
   pub passing-all : {r before : ℕ} → Passing table p r before rows → r ≡ rowsOver (p .m) → TriedRows table p (record { rows = rows; answer = Made (rowsOver (p .m)) })
-  unfolding countOf
+  unfolding answerWith
   passing-all {r} so e =
       let count = rowsOver (p .m) in
       let each : rowWidth * count / rowWidth ≡ count = omega arith in

@@ -16,7 +16,7 @@ use lib.IntN.{pos}
 use lib.ListN.{length, drop}
 use Rattle.arithmetic.proofs.Choice.{chosen}
 use Rattle.ranges.specs.Fields.{least, most, rangeOf, particulars, halfBreadth}
-use Rattle.ranges.specs.Outcome.{answered, andThen}
+use Rattle.ranges.specs.Outcome.{answered, andThen, leftWith}
 use Rattle.ranges.specs.Outside.{firstOutside, numbersOf}
 use Rattle.ranges.specs.Refusals.{outOfRange, wrongSize, placeOfHalfBreadths, halfBreadthTable, rowTable}
 use Rattle.ranges.specs.Sizes.{pointsOf, rowWidth, rowsOver, leastRows, mostRows}
@@ -128,7 +128,7 @@ pub record MadeUsable (after : List ℕ) (count : ℕ) : Type 0 where
   pub usable : Served numbers count
 
 pub made-usable : {table : List ℕ} {p : Particulars} {rows after : List ℕ} {count : ℕ} → MakesRows table p rows after (Made count) → MadeUsable after count
-unfolding tableAfter
+unfolding leftWith
 made-usable {table} {p} {rows} made =
     counted (rowsOf table p (length rows)) (made .answer-is) (λ numbers so e.
     let good = served table p (length rows) so in

@@ -15,14 +15,14 @@ use lib.ListN.{length, take, drop, length-map}
 use lib.Seq.{getD-take, length-take-le}
 use Rattle.arithmetic.proofs.Choice.{chosen}
 use Rattle.ranges.specs.Fields.{particulars}
-use Rattle.ranges.specs.Outcome.{answered, refused}
+use Rattle.ranges.specs.Outcome.{answered, refused, answerWith, leftWith}
 use Rattle.ranges.specs.Outside.{particularsOf}
 use Rattle.ranges.specs.Refusals.{fileTooLong, wrongSize, halfBreadthTable, itemTable, tankTable}
 use Rattle.ranges.specs.Sizes.{longestFile, itemWidth, tankWidth, roomForHalfBreadths, roomForItems, roomForTanks}
 use Rattle.ranges.specs.declared.Particulars.{Particulars}
 use Rattle.ranges.specs.declared.Refusal.{Refusal}
 use Rattle.offsets.specs.File.{Contents, file}
-use Rattle.offsets.specs.Reader.{readerOf, summarised, filled, Reads}
+use Rattle.offsets.specs.Reader.{readerOf, summarised, Reads}
 use Rattle.offsets.specs.Private.Steps.{Sized, Rooms, Parses, hullIn, onParsed}
 use Rattle.offsets.specs.Tokens.{tokens}
 use Rattle.offsets.specs.declared.Read.the-variants.{Sheet, Refused}
@@ -31,7 +31,7 @@ use Rattle.offsets.specs.declared.reader.Parsed.the-variants as P
 
 module _ (text h₀ : List ℕ) (i₀ t₀ : List ℤ) where
   refusal : (number place : ℕ) → readerOf text (length h₀) (length i₀) (length t₀) ≡ refused number place → Reads text h₀ h₀ i₀ i₀ t₀ t₀ (Refused (record { number = number; place = place }))
-  unfolding summarised filled
+  unfolding answerWith leftWith
   refusal number place e = record { answer-is = rw e; tables-are = record { half-breadths-left = rw e; items-left = rw e; tanks-left = rw e } }
 
   pub half-short : length h₀ < roomForHalfBreadths → Reads text h₀ h₀ i₀ i₀ t₀ t₀ (Refused (record { number = wrongSize; place = halfBreadthTable }))
@@ -84,7 +84,7 @@ module _ (text h₀ : List ℕ) (i₀ t₀ : List ℤ) where
             → j ≡ take (itemWidth * i) items ++ drop (itemWidth * i) i₀
             → k ≡ take (tankWidth * t) tanks ++ drop (tankWidth * t) t₀
             → Reads text h₀ h i₀ j t₀ k (Sheet (record { particulars = particulars-read; items = i; tanks = t }))
-        unfolding summarised filled contents
+        unfolding answerWith leftWith contents
         sheet e a b c =
             let fits = rw whole at (parses .fits) in
             let lp : p ≤ length half = omega arith in

@@ -12,14 +12,14 @@ use lib.IntN.{ℤ, pos, natAbs}
 use lib.ListN.{length, take, drop, length-map}
 use lib.Seq.{take-at}
 use Rattle.ranges.specs.Fields.{item, tank}
-use Rattle.ranges.specs.Outcome.{Outcome, answered, refused}
+use Rattle.ranges.specs.Outcome.{Outcome, answered, refused, answerWith, leftWith}
 use Rattle.ranges.specs.Outside.{particularsOf}
 use Rattle.ranges.specs.Sizes.{longestFile, pointsOf, itemWidth, tankWidth, roomForHalfBreadths, roomForItems, roomForTanks}
 use Rattle.ranges.specs.declared.Particulars.{Particulars}
-use Rattle.ranges.proofs.Outcomes.{refused-not, not-refused}
+use Rattle.ranges.proofs.Outcomes.{refused-not, not-refused, with-answered}
 use Rattle.offsets.specs.Back.{RoomForAnyFile, ReadBack, summaryWith}
 use Rattle.offsets.specs.File.{Contents}
-use Rattle.offsets.specs.Reader.{Reads, readerOf, summarised, filled, summaryOf}
+use Rattle.offsets.specs.Reader.{Reads, readerOf, summaryOf}
 use Rattle.offsets.specs.Tokens.{tokens}
 use Rattle.offsets.specs.Written.{textOf}
 use Rattle.offsets.specs.Writer.{Writes, writerOf, lengthOf, roomAfter}
@@ -37,7 +37,7 @@ use Rattle.offsets.proofs.Unique.{read-paper-injective, written-paper-i
 reads-contents : {text h₀ h' : List ℕ} {i₀ i' t₀ t' : List ℤ} {answer : Read} (c : Contents)
     → readerOf text (length h₀) (length i₀) (length t₀) ≡ answered c → Reads text h₀ h' i₀ i' t₀ t' answer
     → ReadBack (summaryOf c) (map natAbs (c .halfBreadths)) (c .items) (c .tanks) h₀ h' i₀ i' t₀ t' answer
-unfolding summarised filled
+unfolding answerWith leftWith
 reads-contents {answer = answer} c e r = record {
   answer-is = read-paper-injective answer (Sheet (summaryOf c)) (r .answer-is ∙ rw e);
   half-breadths-are = r .tables-are .half-breadths-left ∙ rw e;
@@ -54,7 +54,7 @@ pub record Text (p : Particulars) (h : List ℕ) (i t : List ℤ) (room roomLeft
 
 module _ {p : Particulars} {h : List ℕ} {i t : List ℤ} {room roomLeft : List ℕ} {count : ℕ} where
   text-of : (o : Outcome (List ℕ)) → writerOf p h i t (length room) ≡ o → answered count ≡ lengthOf o → roomLeft ≡ roomAfter o room → Text p h i t room roomLeft count
-  unfolding lengthOf roomAfter
+  unfolding answerWith leftWith
   text-of (answered text) e n l =
       let long : length text ≡ count = cc n in
       record { text = text; written = e; stands = rw l (take-at text (drop (length text) room) count long) }
@@ -96,17 +96,11 @@ pub record WrittenAgain (summary : Summary) (h : List ℕ) (i t : List ℤ) (roo
 rewritten : (c : Contents) → Sound c → {room roomLeft : List ℕ} {answer : Written}
     → Writes (particularsOf (c .hull)) (map natAbs (c .halfBreadths)) (c .items) (c .tanks) room roomLeft answer → longestFile ≤ length room
     → WrittenAgain (summaryOf c) (map natAbs (c .halfBreadths)) (c .items) (c .tanks) roomLeft answer
-unfolding lengthOf
+unfolding answerWith
 rewritten c s {room} {answer = answer} w l =
     let text = textOf (particularsOf (c .hull)) (map natAbs (c .halfBreadths)) (c .items) (c .tanks) in
     let e : answer ≡ Wrote (length text) = written-paper-injective answer (Wrote (length text)) (w .answer-is ∙ ap lengthOf (read-is-written c s (length room) l)) in
     record { count = length text; answer-is = e; read-back = λ rooms r. write-then-read (rw e at w) rooms r }
-
--- a summary is that of the contents that were read
-summed : {summary : Summary} (o : Outcome Contents) → answered summary ≡ summarised o → (c : Contents) × (o ≡ answered c) × (summary ≡ summaryOf c)
-unfolding summarised
-summed (answered c) e = (c, refl, cc e)
-summed (refused why place) e = refused-not (sym e)
 
 reader-sound : (text : List ℕ) (h i t : ℕ) {c : Contents} → readerOf text h i t ≡ answered c → Sound c
 unfolding readerOf
@@ -132,7 +126,7 @@ front-of read was after n e l = rw l (take-at read (drop (length read) was) n e)
 
 pub contents-read : {text h₀ h' : List ℕ} {i₀ i' t₀ t' : List ℤ} {summary : Summary} → Reads text h₀ h' i₀ i' t₀ t' (Sheet summary) → ReadContents text h₀ h' i₀ i' t₀ t' summary
 contents-read {text} {h₀} {h'} {i₀} {i'} {t₀} {t'} r =
-    let x = summed (readerOf text (length h₀) (length i₀) (length t₀)) (r .answer-is) in
+    let x = with-answered summaryOf (readerOf text (length h₀) (length i₀) (length t₀)) (sym (r .answer-is)) in
     let c = x .0 in
     let s = reader-sound text (length h₀) (length i₀) (length t₀) (x .1) in
     let b = reads-contents c (x .1) r in

@@ -1,7 +1,6 @@
 -- What the reader and the writer refuse has one of the paper's numbers.
 --     one-numbered, count-numbered, numbers-numbered, section-numbered, complete-numbered, file-numbered     the parts of a file
 --     reader-numbered, writer-numbered             the calls' outcomes
---     summarised-numbered, length-numbered         and what is answered of them
 -- Assumes nothing.
 use Prim.Native.Nat.{ℕ, _≤_}
 use mathlib.Core.List.{List, [], _∷_}
@@ -9,16 +8,16 @@ use native.Mathlib.Omega.{arith}
 use lib.IntN.{ℤ}
 use lib.ListN.{length}
 use Rattle.ranges.specs.Fields.{Range, _to_, particulars, halfBreadth, item, tank}
-use Rattle.ranges.specs.Outcome.{Outcome, answered, refused, Numbered}
+use Rattle.ranges.specs.Outcome.{Numbered}
 use Rattle.ranges.specs.Refusals.{firstRefusal, lastRefusal, countNotAllowed, outOfRange}
 use Rattle.ranges.specs.Sizes.{mostItems, mostTanks}
 use Rattle.ranges.specs.declared.Particulars.{Particulars}
-use Rattle.ranges.proofs.Numbered.{numbered, answered-numbered, passed-on, then-numbered}
+use Rattle.ranges.proofs.Numbered.{numbered, answered-numbered, then-numbered}
 use Rattle.offsets.specs.File.{Contents, points, records, section, complete, file}
-use Rattle.offsets.specs.Reader.{readerOf, summarised}
+use Rattle.offsets.specs.Reader.{readerOf}
 use Rattle.offsets.specs.Reading.{one, count, numbers}
 use Rattle.offsets.specs.Tokens.{Token, number, noNumber, tokens}
-use Rattle.offsets.specs.Writer.{writerOf, lengthOf}
+use Rattle.offsets.specs.Writer.{writerOf}
 
 module _ (len : ℕ) where
   pub one-numbered : (why : ℕ) (range : Range) (ts : List Token) → firstRefusal ≤ why → why ≤ lastRefusal → Numbered (one len why range ts)
@@ -64,14 +63,3 @@ reader-numbered text halfBreadths items tanks = let rest = file-numbered (length
 pub writer-numbered : (p : Particulars) (halfBreadths : List ℕ) (items tanks : List ℤ) (room : ℕ) → Numbered (writerOf p halfBreadths items tanks room)
 unfolding writerOf
 writer-numbered p halfBreadths items tanks room = search numbered depth 12
-
--- ---- what is answered of an outcome
-pub summarised-numbered : (o : Outcome Contents) → Numbered o → Numbered (summarised o)
-unfolding summarised
-summarised-numbered (answered c) h = answered-numbered _
-summarised-numbered (refused n place) h = passed-on h
-
-pub length-numbered : (o : Outcome (List ℕ)) → Numbered o → Numbered (lengthOf o)
-unfolding lengthOf
-length-numbered (answered text) h = answered-numbered _
-length-numbered (refused n place) h = passed-on h

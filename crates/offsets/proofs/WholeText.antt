@@ -11,7 +11,7 @@ use lib.IntN.{ℤ}
 use lib.ListN.{length, take, drop}
 use lib.Seq.{sets-eq, take-at, take-length}
 use Rattle.ranges.specs.Private.InRange.{ParticularsInRange}
-use Rattle.ranges.specs.Outcome.{refused}
+use Rattle.ranges.specs.Outcome.{refused, answerWith, leftWith}
 use Rattle.ranges.specs.Refusals.{roomTooShort}
 use Rattle.ranges.specs.Sizes.{longestFile, itemWidth, tankWidth}
 use Rattle.ranges.specs.declared.Particulars.{Particulars}
@@ -96,11 +96,11 @@ text-stands {p} {h} {i} {t} {text} {count = count} o put big =
 
 module _ {p : Particulars} {h : List ℕ} {i t : List ℤ} {room : List ℕ} where
   pub writes-refused : {why place : ℕ} {answer : Written} → writerOf p h i t (length room) ≡ refused why place → answer ≡ Refused (record { number = why; place = place }) → Writes p h i t room room answer
-  unfolding lengthOf roomAfter
+  unfolding answerWith leftWith
   writes-refused e a = record { answer-is = rw (e, a); left = rw e }
 
   pub writes-straight : {left : List ℕ} {count : ℕ} → Passes p h i t → Puts (textOf p h i t) room 0 left count → longestFile ≤ length room → Writes p h i t room left (Wrote count)
-  unfolding lengthOf roomAfter
+  unfolding answerWith leftWith
   writes-straight {count = count} o put big =
       let whole = textOf p h i t in
       let fits : RoomFor whole room 0 = room-for-text o big in
@@ -115,7 +115,7 @@ module _ {p : Particulars} {h : List ℕ} {i t : List ℤ} {room : List ℕ} whe
         writes-refused (refuses-room p h i t (length room) o (omega (arith, s .count-is))) (rw (s .count-is) at a)
 
     pub writes-text : {left : List ℕ} → count ≤ length room → left ≡ take (length (take count array)) (take count array) ++ drop (length (take count array)) room → Writes p h i t room left (Wrote count)
-    unfolding lengthOf roomAfter
+    unfolding answerWith leftWith
     writes-text l e =
         let answer = answers p h i t (length room) o (omega (arith, s .count-is)) in
         record { answer-is = rw (answer, s .count-is); left = e ∙ rw (answer, s .stands, take-length) }

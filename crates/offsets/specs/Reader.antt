@@ -1,12 +1,12 @@
 -- What the reader promises of a text and three lent tables.
 use Prim.Native.Nat.{ℕ, _/_}
 use mathlib.Core.Path.{_≡_}
-use mathlib.Core.List.{List, _++_, map}
+use mathlib.Core.List.{List, map}
 use lib.Dec.{ltb}
 use lib.IntN.{ℤ, natAbs}
-use lib.ListN.{length, drop}
+use lib.ListN.{length}
 use Rattle.arithmetic.specs.Choice.{if_then_else_}
-use Rattle.ranges.specs.Outcome.{Outcome, answered, refused}
+use Rattle.ranges.specs.Outcome.{Outcome, answered, refused, answerWith, leftWith}
 use Rattle.ranges.specs.Outside.{particularsOf}
 use Rattle.ranges.specs.Refusals.{fileTooLong, wrongSize, halfBreadthTable, itemTable, tankTable}
 use Rattle.ranges.specs.Sizes.{longestFile, itemWidth, tankWidth, roomForHalfBreadths, roomForItems, roomForTanks}
@@ -33,25 +33,19 @@ summaryOf c = record {
   tanks = length (c .tanks) / tankWidth;
 }
 
-unfoldable pub summarised : Outcome Contents → Outcome Summary
-summarised (answered c) = answered (summaryOf c)
-summarised (refused number place) = refused number place
+abbrev pub summarised : Outcome Contents → Outcome Summary
+summarised = answerWith summaryOf
 
 -- the paper's number and values for each answer
 abbrev pub paper : Read → Outcome Summary
 paper (Sheet summary) = answered summary
 paper (Refused r) = refused (r .number) (r .place)
 
--- a lent table afterwards: the numbers read, and "every place beyond what they filled unchanged"; on a refusal what stood before
-unfoldable pub filled : {A : Type 0} → (Contents → List A) → Outcome Contents → List A → List A
-filled part (answered c) was = part c ++ drop (length (part c)) was
-filled part (refused number place) was = was
-
--- the three lent tables afterwards
+-- the three lent tables afterwards: the numbers read, and "every place beyond what they filled unchanged"; on a refusal what stood before
 pub record ReadInto (outcome : Outcome Contents) (halfBreadths halfBreadthsAfter : List ℕ) (items itemsAfter tanks tanksAfter : List ℤ) : Type 0 where
-  pub half-breadths-left : halfBreadthsAfter ≡ filled (λ c. map natAbs (c .halfBreadths)) outcome halfBreadths
-  pub items-left : itemsAfter ≡ filled (λ c. c .items) outcome items
-  pub tanks-left : tanksAfter ≡ filled (λ c. c .tanks) outcome tanks
+  pub half-breadths-left : halfBreadthsAfter ≡ leftWith (λ c. map natAbs (c .halfBreadths)) outcome halfBreadths
+  pub items-left : itemsAfter ≡ leftWith (λ c. c .items) outcome items
+  pub tanks-left : tanksAfter ≡ leftWith (λ c. c .tanks) outcome tanks
 
 pub record Reads (text : List ℕ) (halfBreadths halfBreadthsAfter : List ℕ) (items itemsAfter tanks tanksAfter : List ℤ) (answer : Read) : Type 0 where
   pub answer-is : paper answer ≡ summarised (readerOf text (length halfBreadths) (length items) (length tanks))

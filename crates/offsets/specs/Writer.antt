@@ -2,13 +2,13 @@
 use Prim.Native.Nat.{ℕ, _+_}
 use mathlib.Core.Path.{_≡_}
 use mathlib.Core.Bool.{not}
-use mathlib.Core.List.{List, _++_, map}
+use mathlib.Core.List.{List, map}
 use lib.Dec.{ltb, eqb}
 use lib.IntN.{ℤ, pos}
-use lib.ListN.{length, drop}
+use lib.ListN.{length}
 use Rattle.arithmetic.specs.Choice.{if_then_else_}
 use Rattle.ranges.specs.Fields.{particulars, halfBreadth, item, tank}
-use Rattle.ranges.specs.Outcome.{Outcome, answered, refused}
+use Rattle.ranges.specs.Outcome.{Outcome, answered, refused, answerWith, leftWith}
 use Rattle.ranges.specs.Outside.{firstOutside, numbersOf}
 use Rattle.ranges.specs.Refusals.{outOfRange, wrongSize, roomTooShort, placeOfHalfBreadths, placeOfItems, placeOfTanks, halfBreadthTable, itemTable, tankTable}
 use Rattle.ranges.specs.Sizes.{pointsOf, wholeRecords, itemWidth, tankWidth, mostItems, mostTanks}
@@ -40,14 +40,12 @@ abbrev pub paper : Written → Outcome ℕ
 paper (Wrote count) = answered count
 paper (Refused r) = refused (r .number) (r .place)
 
-unfoldable pub lengthOf : Outcome (List ℕ) → Outcome ℕ
-lengthOf (answered text) = answered (length text)
-lengthOf (refused number place) = refused number place
+abbrev pub lengthOf : Outcome (List ℕ) → Outcome ℕ
+lengthOf = answerWith length
 
 -- the room afterwards: the text, and what stood beyond it; on a refusal what stood before
-unfoldable pub roomAfter : Outcome (List ℕ) → List ℕ → List ℕ
-roomAfter (answered text) was = text ++ drop (length text) was
-roomAfter (refused number place) was = was
+abbrev pub roomAfter : Outcome (List ℕ) → List ℕ → List ℕ
+roomAfter = leftWith (λ text. text)
 
 pub record Writes (p : Particulars) (halfBreadths : List ℕ) (items tanks : List ℤ) (room roomLeft : List ℕ) (answer : Written) : Type 0 where
   pub answer-is : paper answer ≡ lengthOf (writerOf p halfBreadths items tanks (length room))

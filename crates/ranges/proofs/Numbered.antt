@@ -4,6 +4,7 @@
 --     passed-on             a refusal that is passed on, in place of another answer
 --     if-numbered           a test, if both ways are
 --     then-numbered         a step, if what stands before it and all that may follow are
+--     with-numbered         an answer with a part of its values in their place
 --     numbered              all of these, for a definition of tests: `search numbered`, and `depth` by the count of tests
 -- Assumes nothing.
 use mathlib.Core.Path.{_≡_, refl, sym}
@@ -13,7 +14,7 @@ use native.Mathlib.Omega.{arith}
 use lib.Dec.{lit≤}
 use Rattle.arithmetic.specs.Choice.{if_then_else_}
 use Rattle.arithmetic.proofs.Choice.{if-either}
-use Rattle.ranges.specs.Outcome.{Outcome, answered, refused, andThen, Numbered}
+use Rattle.ranges.specs.Outcome.{Outcome, answered, refused, andThen, answerWith, Numbered}
 use Rattle.ranges.specs.Refusals.{firstRefusal, lastRefusal}
 use Rattle.ranges.proofs.Outcomes.{refused-not}
 
@@ -36,5 +37,10 @@ pub then-numbered : {A B : Type 0} {o : Outcome A} {next : A → Outcome B} → 
 unfolding andThen
 then-numbered {o = answered a} first further = further a
 then-numbered {o = refused number place} first further = passed-on first
+
+pub with-numbered : {A B : Type 0} (part : A → B) (o : Outcome A) → Numbered o → Numbered (answerWith part o)
+unfolding answerWith
+with-numbered part (answered a) h = answered-numbered (part a)
+with-numbered part (refused number place) h = passed-on h
 
 pub ruleset numbered = (answered-numbered, refused-numbered, if-numbered, then-numbered, lit≤, tt)

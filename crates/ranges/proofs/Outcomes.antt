@@ -5,14 +5,17 @@
 --     not-refused, was-passed      before an answer a test gave no refusal, where it refuses when true and when false
 --     was-refused                  what is refused after a test whose other way answers was refused by the test
 --     answered-then                what is answered in the end was answered on the way
+--     with-answered, with-refused  what an answer with a part of its values in their place tells of the whole, and a refusal
+--     left-refused                 a refusal leaves a lent table as it was
 --     then-assoc                   three steps, joined from either end
 -- Assumes nothing.
 use mathlib.Core.Path.{_≡_, refl, sym, ap₂}
 use mathlib.Core.Bool.{Bool, true, false}
+use mathlib.Core.List.{List}
 use Prim.Native.Nat.{ℕ}
 use native.Mathlib.Omega.{arith}
 use Rattle.arithmetic.specs.Choice.{if_then_else_}
-use Rattle.ranges.specs.Outcome.{Outcome, answered, refused, andThen}
+use Rattle.ranges.specs.Outcome.{Outcome, answered, refused, andThen, answerWith, leftWith}
 use Rattle.ranges.specs.declared.Refusal.{Refusal}
 
 pub refused-not : {A X : Type 0} {number place : ℕ} {a : A} → _≡_ {A = Outcome A} (refused number place) (answered a) → X
@@ -50,3 +53,19 @@ pub then-assoc : {A B C : Type 0} (o : Outcome A) (next : A → Outcome B) (last
 unfolding andThen
 then-assoc (answered a) next last = refl
 then-assoc (refused number place) next last = refl
+
+-- ---- a part in the values' place
+pub with-answered : {A B : Type 0} (part : A → B) (o : Outcome A) {b : B} → answerWith part o ≡ answered b → (a : A) × (o ≡ answered a) × (b ≡ part a)
+unfolding answerWith
+with-answered part (answered a) e = (a, refl, sym (answer-same e))
+with-answered part (refused number place) e = refused-not e
+
+pub with-refused : {A B : Type 0} (part : A → B) (o : Outcome A) {number place : ℕ} → answerWith part o ≡ refused number place → o ≡ refused number place
+unfolding answerWith
+with-refused part (answered a) e = refused-not (sym e)
+with-refused part (refused number place) e = cc
+
+-- ---- lent tables
+pub left-refused : {A B : Type 0} (numbers : A → List B) (o : Outcome A) (was : List B) {number place : ℕ} → o ≡ refused number place → leftWith numbers o was ≡ was
+unfolding leftWith
+left-refused numbers o was e = rw e

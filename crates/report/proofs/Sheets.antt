@@ -21,11 +21,11 @@ use lib.Seq.{take-at, take-length}
 use Rattle.arithmetic.proofs.Choice.{chosen}
 use Rattle.arithmetic.proofs.Room.{laid-fits, laid-short}
 use Rattle.hydrostatics.specs.Promise as Rows
-use Rattle.hydrostatics.specs.Promise.{MakesRows, tableAfter}
+use Rattle.hydrostatics.specs.Promise.{MakesRows, tableAfter, rowCount}
 use Rattle.hydrostatics.specs.Rows.{rowsOf}
 use Rattle.hydrostatics.specs.declared.Rows.{Rows as RowsAnswer}
 use Rattle.hydrostatics.specs.declared.Rows.the-variants as RowsAnswer
-use Rattle.hydrostatics.proofs.Passed.{counted, refused-count}
+use Rattle.hydrostatics.proofs.Passed.{counted}
 use Rattle.hydrostatics.proofs.Usable.{Served, served}
 use Rattle.loading.specs.Condition.{conditionOf}
 use Rattle.loading.specs.Promise as Loading
@@ -41,12 +41,12 @@ use Rattle.offsets.specs.declared.Summary.{Summary}
 use Rattle.offsets.proofs.Calls.{halfBreadthsRead, itemsRead, tanksRead, contents-read}
 use Rattle.offsets.proofs.Sound.{hull-most, points-le}
 use Rattle.ranges.specs.Fields.{most, rangeOf}
-use Rattle.ranges.specs.Outcome.{Outcome, answered, refused}
+use Rattle.ranges.specs.Outcome.{Outcome, answered, refused, answerWith, leftWith}
 use Rattle.ranges.specs.Refusals.{roomTooShort}
 use Rattle.ranges.specs.Sizes.{pointsOf, rowsOver, rowWidth, mostItems, mostTanks, roomForHalfBreadths, roomForItems, roomForTanks, roomForRows}
 use Rattle.ranges.specs.declared.Particulars.{Particulars}
 use Rattle.ranges.specs.declared.Refusal.{Refusal}
-use Rattle.ranges.proofs.Outcomes.{refused-not, answer-same, not-refused}
+use Rattle.ranges.proofs.Outcomes.{refused-not, answer-same, not-refused, with-refused}
 use Rattle.report.specs.Lines.{conditionLine, refusalLine}
 use Rattle.report.specs.Promise.{reportOf, Reports}
 use Rattle.report.specs.Private.Putting.{Ready, Puts, WholeRows, longestSheet, mostConditionLine, mostRefusalLine, mostRowLine}
@@ -85,11 +85,11 @@ module _ {table : List ℕ} {p : Particulars} {rows after : List ℕ} {answer : 
   pub hull-refused : (items tanks : List ℤ) {f : Refusal} {was end : List ℕ} {last : ℕ} → answer ≡ RowsAnswer.Refused f → Puts mostRefusalLine (refusalLine (f .number) (f .place)) was 0 end last → Puts longestSheet (rowsSaid items tanks (rowsOf table p roomForRows)) was 0 end last
   unfolding rowsSaid
   hull-refused items tanks e line =
-      let so = refused-count (rowsOf table p (length rows)) (sym (ap Rows.paper e) ∙ makes .answer-is) in
+      let so = with-refused rowCount (rowsOf table p (length rows)) (sym (makes .answer-is) ∙ ap Rows.paper e) in
       rw (ap (rowsOf table p) (sym long) ∙ so) (puts-le line longestSheet (omega arith))
 
   pub made-rows : {count : ℕ} → answer ≡ RowsAnswer.Made count → Made table p after count
-  unfolding tableAfter
+  unfolding leftWith
   made-rows {count} e =
       counted (rowsOf table p (length rows)) (sym (ap Rows.paper e) ∙ makes .answer-is) (λ numbers so count-is.
       let good : Served numbers (rowsOver (p .m)) = served table p (length rows) so in
@@ -109,11 +109,6 @@ module _ {table : List ℕ} {p : Particulars} {rows after : List ℕ} {answer : 
       rw (made .is, counts) lines
 
 -- ---- the file
-refused-file : (o : Outcome Contents) {number place : ℕ} → refused number place ≡ summarised o → o ≡ refused number place
-unfolding summarised
-refused-file (answered c) e = refused-not e
-refused-file (refused number place) e = cc
-
 -- the numbers of a whole file stand in front of three tables
 pub record Whole-read (text h : List ℕ) (i t : List ℤ) (s : Summary) : Type 0 where
   pub contents : Contents
@@ -137,7 +132,7 @@ module _ {text h₀ h : List ℕ} {i₀ i t₀ t : List ℤ} {answer : ReadAnswe
   pub file-refused : {f : Refusal} {was end : List ℕ} {last : ℕ} → answer ≡ ReadAnswer.Refused f → Puts mostRefusalLine (refusalLine (f .number) (f .place)) was 0 end last → Puts longestSheet (sheetOf text) was 0 end last
   unfolding sheetOf fileSaid
   file-refused e line =
-      let so = refused-file (readerOf text (length h₀) (length i₀) (length t₀)) (sym (ap Reader.paper e) ∙ reads .answer-is) in
+      let so = with-refused summaryOf (readerOf text (length h₀) (length i₀) (length t₀)) (sym (reads .answer-is) ∙ ap Reader.paper e) in
       rw (sym read-is ∙ so) (puts-le line longestSheet (omega arith))
 
   pub sheet-read : {s : Summary} → answer ≡ ReadAnswer.Sheet s → Whole-read text h i t s

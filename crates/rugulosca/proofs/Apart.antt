@@ -8,16 +8,18 @@ use mathlib.Core.List.{List}
 use native.Mathlib.Omega.{arith}
 use lib.Ieee.{Float}
 use lib.IntN.{ℤ}
+use lib.ListN.{length}
 use Rattle.ranges.specs.Outcome.{Outcome, answered, refused, Numbered}
 use Rattle.ranges.specs.declared.Particulars.{Particulars}
-use Rattle.offsets.specs.Reader.{readerOf, summarised}
+use Rattle.ranges.proofs.Numbered.{with-numbered}
+use Rattle.offsets.specs.Reader.{readerOf, summaryOf, summarised}
 use Rattle.offsets.specs.Writer.{writerOf, lengthOf}
-use Rattle.offsets.proofs.Numbered.{reader-numbered, writer-numbered, summarised-numbered, length-numbered}
+use Rattle.offsets.proofs.Numbered.{reader-numbered, writer-numbered}
 use Rattle.hydrostatics.specs.Display.{displayOf}
-use Rattle.hydrostatics.specs.Promise.{countOf}
+use Rattle.hydrostatics.specs.Promise.{rowCount, countOf}
 use Rattle.hydrostatics.specs.Rows.{rowsOf}
 use Rattle.hydrostatics.specs.declared.Row.{Row}
-use Rattle.hydrostatics.proofs.Numbered.{rows-numbered, count-numbered, display-numbered}
+use Rattle.hydrostatics.proofs.Numbered.{rows-numbered, display-numbered}
 use Rattle.loading.specs.Condition.{conditionOf}
 use Rattle.loading.proofs.Numbered.{condition-numbered}
 use Rattle.report.specs.Promise.{reportOf}
@@ -42,15 +44,15 @@ module _ {place placeLeft number : ℕ} where
 
   pub read-apart : (text : List ℕ) (halfBreadths items tanks : ℕ) {was left : List ℕ}
       → Tells summaryNumbers (summarised (readerOf text halfBreadths items tanks)) was left place placeLeft number → Apart (summarised (readerOf text halfBreadths items tanks)) number
-  read-apart text halfBreadths items tanks t = apart (summarised-numbered _ (reader-numbered text halfBreadths items tanks)) t
+  read-apart text halfBreadths items tanks t = apart (with-numbered summaryOf _ (reader-numbered text halfBreadths items tanks)) t
 
   pub write-apart : (p : Particulars) (halfBreadths : List ℕ) (items tanks : List ℤ) (room : ℕ) {was left : ℕ}
       → Tells (λ n. n) (lengthOf (writerOf p halfBreadths items tanks room)) was left place placeLeft number → Apart (lengthOf (writerOf p halfBreadths items tanks room)) number
-  write-apart p halfBreadths items tanks room t = apart (length-numbered _ (writer-numbered p halfBreadths items tanks room)) t
+  write-apart p halfBreadths items tanks room t = apart (with-numbered length _ (writer-numbered p halfBreadths items tanks room)) t
 
   pub rows-apart : (table : List ℕ) (p : Particulars) (room : ℕ) {was left : ℕ}
       → Tells (λ n. n) (countOf (rowsOf table p room)) was left place placeLeft number → Apart (countOf (rowsOf table p room)) number
-  rows-apart table p room t = apart (count-numbered _ (rows-numbered table p room)) t
+  rows-apart table p room t = apart (with-numbered rowCount _ (rows-numbered table p room)) t
 
   pub display-apart : (row : Row) {was left : List Float} → Tells figureNumbers (displayOf row) was left place placeLeft number → Apart (displayOf row) number
   display-apart row t = apart (display-numbered row) t
