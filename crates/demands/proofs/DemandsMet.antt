@@ -3,18 +3,13 @@
 -- Assumes nothing.
 use mathlib.Core.Path.{_≡_, sym, ap, _∙_}
 use mathlib.Core.List.{List}
-use Prim.Native.Nat.{ℕ, _≤_}
+use Prim.Native.Nat.{ℕ}
 use lib.IntN.{ℤ, pos}
-use Rattle.simpson.specs.Cubic.{cubic, area}
-use Rattle.simpson.specs.Curve.{curve}
 use Rattle.simpson.proofs.Moments.{curve-exact}
 use Rattle.offsets.proofs.Calls.{write-then-read}
-use Rattle.hydrostatics.specs.Hull.{halfBreadth, Q}
+use Rattle.hydrostatics.specs.Hull.{halfBreadth}
 use Rattle.hydrostatics.proofs.Exchange.{Q-is}
 use Rattle.hydrostatics.proofs.MadeRows.{made-rows}
-use Rattle.ranges.specs.Outcome.{answered}
-use Rattle.ranges.specs.declared.Particulars.{Particulars}
-use Rattle.loading.specs.Condition.{conditionOf}
 use Rattle.loading.specs.Demand.{LoweredTables, NoWorse}
 use Rattle.loading.specs.declared.Answer.{Answer}
 use Rattle.loading.specs.declared.Answer.the-variants.{Laden}

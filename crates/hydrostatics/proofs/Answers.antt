@@ -20,7 +20,7 @@ use Rattle.ranges.specs.Refusals.{outOfRange, wrongSize, placeOfHalfBreadths, h
 use Rattle.ranges.specs.Sizes.{pointsOf, rowWidth, rowsOver}
 use Rattle.ranges.specs.declared.Particulars.{Particulars}
 use Rattle.ranges.proofs.Facts.{particulars-in-range, half-breadths-in-range}
-use Rattle.hydrostatics.specs.Promise.{paper, countOf, tableAfter, MakesRows}
+use Rattle.hydrostatics.specs.Promise.{paper, MakesRows}
 use Rattle.hydrostatics.specs.Rows.{rowsUpTo, rowsOf}
 use Rattle.hydrostatics.specs.Private.Table.{FillsRows}
 use Rattle.hydrostatics.specs.Private.Waterplanes.{InRange}

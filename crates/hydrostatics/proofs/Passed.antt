@@ -4,7 +4,7 @@
 --     made-count               the answer carries the row count
 --     made-left, refused-left  the table after a success, by the rows that were kept, and after a refusal
 -- Assumes nothing.
-use mathlib.Core.Path.{_≡_, refl, sym, ap, _∙_}
+use mathlib.Core.Path.{_≡_, sym, ap, _∙_}
 use mathlib.Core.List.{List, _++_}
 use Prim.Native.Nat.{ℕ, zero, suc, _*_, _/_, _≤_, _<_}
 use native.Mathlib.Omega.{arith}
@@ -19,14 +19,14 @@ use Rattle.ranges.specs.Outcome.{Outcome, answered, refused, leftWith}
 use Rattle.ranges.specs.Refusals.{displacementNotRising, metacentreTooHigh}
 use Rattle.ranges.specs.Sizes.{rowWidth, rowsOver}
 use Rattle.ranges.specs.declared.Particulars.{Particulars}
-use Rattle.hydrostatics.specs.Promise.{paper, countOf, tableAfter, rowCount}
+use Rattle.hydrostatics.specs.Promise.{paper, countOf, rowCount}
 use Rattle.hydrostatics.specs.Row.{rowOf, numbersOf}
 use Rattle.hydrostatics.specs.Rows.{displacementBefore, rowsUpTo}
 use Rattle.hydrostatics.specs.Private.Table.{noRow, numbersUpTo, TriedRows, FillsRows}
 use Rattle.hydrostatics.specs.declared.Rows.the-variants.{Made, Refused}
 use Rattle.hydrostatics.specs.declared.table.Tried.{Tried}
 use Rattle.ranges.specs.declared.Refusal.{Refusal}
-use Rattle.ranges.proofs.Outcomes.{refused-not, not-refused, answered-then, with-answered, with-refused, left-refused}
+use Rattle.ranges.proofs.Outcomes.{not-refused, answered-then, with-answered, with-refused, left-refused}
 use Rattle.hydrostatics.proofs.Writing.{numbers-length, numbers-same}
 
 below-suc : {P : ℕ → Type 0} (r : ℕ) → ((i : ℕ) → i < r → P i) → P r → (i : ℕ) → i < suc r → P i

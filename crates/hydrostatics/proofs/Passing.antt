@@ -21,7 +21,7 @@ use Rattle.ranges.specs.Refusals.{displacementNotRising, metacentreTooHigh}
 use Rattle.ranges.specs.Sizes.{rowWidth, rowsOver, mostRows}
 use Rattle.ranges.specs.declared.Particulars.{Particulars}
 use Rattle.ranges.proofs.Outcomes.{refused-not}
-use Rattle.hydrostatics.specs.Promise.{paper, countOf}
+use Rattle.hydrostatics.specs.Promise.{paper}
 use Rattle.hydrostatics.specs.Row.{rowOf, numbersOf}
 use Rattle.hydrostatics.specs.Rows.{displacementBefore, rowsUpTo}
 use Rattle.hydrostatics.specs.Private.Table.{noRow, numbersUpTo, TriedRows}

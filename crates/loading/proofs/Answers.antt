@@ -4,8 +4,7 @@
 --     tried-answered   and the other way
 --     rows-are-usable  the rows of a condition that was tried are usable in the words of demand 3
 -- Assumes nothing.
-use mathlib.Core.Path.{_≡_, refl, sym, ap, _∙_}
-use mathlib.Core.Bool.{Bool, true, false}
+use mathlib.Core.Path.{_≡_}
 use mathlib.Core.List.{List}
 use Prim.Native.Nat.{ℕ, _+_, _/_, _≤_}
 use native.Mathlib.Omega.{arith}
@@ -15,7 +14,7 @@ use lib.ListN.{length}
 use Rattle.arithmetic.proofs.Choice.{chosen}
 use Rattle.hydrostatics.specs.Usable.{usableUpTo}
 use Rattle.ranges.specs.Fields.{item}
-use Rattle.ranges.specs.Outcome.{Outcome, answered, refused, andThen}
+use Rattle.ranges.specs.Outcome.{answered, andThen}
 use Rattle.ranges.specs.Outside.{firstOutside}
 use Rattle.ranges.specs.Refusals.{outOfRange, wrongSize, tooLight, tooHeavy, placeOfItems, itemTable, tankTable, rowTable}
 use Rattle.ranges.specs.Sizes.{rowWidth}

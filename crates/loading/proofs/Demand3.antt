@@ -9,7 +9,7 @@
 --     lowering-never-costs-the-answer      what was answered is answered again when it is lowered, and no worse
 -- The same for any sound rules of KM and free surface: `Demand`; what the laws of a rule are: `Laws`.
 -- Assumes nothing.
-use mathlib.Core.Path.{_≡_, ap, ap₂}
+use mathlib.Core.Path.{_≡_, ap₂}
 use mathlib.Core.List.{List}
 use Prim.Native.Nat.{ℕ, _/_, _≤_}
 use lib.Dec.{T}

@@ -5,7 +5,7 @@
 --     km-line, draft-line            W lies between the two,
 --     floats-between                 and draft and KM lie on the straight line
 -- Assumes nothing.
-use mathlib.Core.Path.{_≡_, refl, sym, ap, subst, _∙_}
+use mathlib.Core.Path.{_≡_, refl, sym, ap, _∙_}
 use mathlib.Core.List.{List}
 use Prim.Native.Nat.{ℕ, _+_, _-_, _*_, _/_, _≤_, _<_}
 use native.Mathlib.Nat.{mul-le-mul-right, mul-add, div-one, zero-mul, zero-add}
@@ -16,11 +16,10 @@ use Rattle.ranges.specs.Fields.{highestMetacentre, most, rowRange}
 use Rattle.hydrostatics.specs.Usable.{rowIn, spacing}
 use Rattle.hydrostatics.specs.declared.Row.{Row}
 use Rattle.loading.specs.Private.Afloat.{RowsUsable, RowBelow, OnLine, Floats, Within}
-use Rattle.loading.specs.Paper.{paperRules, onLine}
-use Rattle.loading.specs.Table.{Table, Place, on, between, tableOf, lastRow, placeOf, draftAt, line}
-use Rattle.loading.specs.declared.floating.Floating.{Floating}
+use Rattle.loading.specs.Paper.{onLine}
+use Rattle.loading.specs.Table.{Place, on, between, tableOf, lastRow, placeOf, draftAt, line}
 use Rattle.loading.proofs.Tables.{last-row, place-on, place-between}
-use Rattle.loading.proofs.Usability.{UsableRow, usable-at, rises-at}
+use Rattle.loading.proofs.Usability.{UsableRow, usable-at}
 
 pub line-most : {a b lo hi w : ℕ} → OnLine a b lo hi w → line a b lo hi w / (hi - lo) ≤ highestMetacentre
 line-most {a} {b} {lo} {hi} {w} l =

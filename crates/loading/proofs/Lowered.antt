@@ -6,27 +6,26 @@ use mathlib.Core.Path.{_≡_, sym, ap, subst, _∙_}
 use mathlib.Core.Bool.{true}
 use mathlib.Core.List.{List, _∷_}
 use Prim.Native.Nat.{ℕ, zero, suc, _+_, _*_, _-_, _%_, _/_, _≤_, _<_}
-use native.Mathlib.Nat.{zero-add}
 use native.Mathlib.Omega.{arith}
 use borrow.Author.Tests.{ltb-false}
 use lib.IntN.{ℤ, pos}
-use lib.ListN.{length, getD, take, drop}
+use lib.ListN.{length, getD, drop}
 use lib.Seq.{getD-take, getD-drop}
 use Rattle.ranges.specs.Fields.{_to_, within, tank}
 use Rattle.ranges.specs.Outcome.{answered}
 use Rattle.ranges.specs.Outside.{firstOutside}
 use Rattle.ranges.specs.Refusals.{outOfRange, contentsAboveCapacity, placeOfTanks}
-use Rattle.ranges.specs.Sizes.{tankWidth, mostTanks, rowWidth}
+use Rattle.ranges.specs.Sizes.{tankWidth, mostTanks}
 use Rattle.ranges.proofs.Facts.{all-within, all-inside, records-are}
 use Rattle.ranges.proofs.Outcomes.{not-refused}
 use Rattle.loading.specs.Condition.{tanksFrom}
 use Rattle.loading.specs.Demand.{LoweredTables}
-use Rattle.loading.specs.Load.{LoweredTank, weight}
+use Rattle.loading.specs.Load.{LoweredTank}
 use Rattle.loading.specs.Private.Aboard.{sizeAt, tankAt}
 use Rattle.loading.specs.Private.Afloat.{Within}
 use Rattle.loading.specs.Records.{tanksOf, loadOf}
 use Rattle.loading.specs.Table.{hull}
-use Rattle.loading.specs.Total.{Each, none, more}
+use Rattle.loading.specs.Total.{Each, more}
 use Rattle.loading.proofs.Answers.{Tried}
 use Rattle.loading.proofs.Lowering.{lower-weight}
 use Rattle.loading.proofs.Stowage.{eightAt, part-eight, tank-passed, trial-end}

@@ -2,16 +2,15 @@
 --     moderate      GM and the transverse moment of what can be aboard are small
 --     made          the record, from equations of its parts
 -- Assumes nothing.
-use mathlib.Core.Path.{_≡_, refl, sym, ap, _∙_}
+use mathlib.Core.Path.{_≡_}
 use mathlib.Core.Bool.{Bool}
-use Prim.Native.Nat.{ℕ, _+_, _/_, _≤_}
+use Prim.Native.Nat.{ℕ, _+_, _/_}
 use native.Mathlib.Omega.{arith}
 use lib.IntN.{ℤ}
 use Rattle.arithmetic.specs.Rounding.{roundedUp}
 use Rattle.loading.specs.Stability.{heelOf, passes}
 use Rattle.loading.specs.Private.Steady.{gmOf, transverseOf, passesWith, conditionWith, Steady, Moderate}
 use Rattle.loading.specs.declared.Aboard.{Aboard}
-use Rattle.loading.specs.declared.Condition.{Condition}
 use Rattle.loading.specs.declared.Heel.{Heel}
 use Rattle.loading.proofs.Difference.{difference-size, difference-above}
 

@@ -13,7 +13,7 @@ use Rattle.arithmetic.proofs.Integer.{solveℤ}
 use Rattle.arithmetic.proofs.Polynomial.{_:+_, :-_}
 use Rattle.ranges.specs.Sides.{sidesOf}
 use Rattle.ranges.proofs.Facts.{sides-are}
-use Rattle.loading.specs.Private.Aboard.{nothing, _with_, weightAt, ofItem, ofTank, altogether, aboardOf}
+use Rattle.loading.specs.Private.Aboard.{nothing, _with_, ofItem, ofTank, altogether, aboardOf}
 use Rattle.loading.specs.Condition.{conditionAt}
 use Rattle.loading.specs.Load.{Load, weight, longitudinalMoment, verticalMoment, transverseMoment}
 use Rattle.loading.specs.Paper.{paperRules, rectangle}

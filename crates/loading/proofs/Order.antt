@@ -6,8 +6,8 @@
 --     bad-row, bad-item, after-all                          the rows and the items,
 --     loadable                                              which are allowed
 -- Assumes nothing.
-use mathlib.Core.Path.{_≡_, refl, sym, ap, ap₂, subst, _∙_}
-use mathlib.Core.Bool.{Bool, true, false, not, _&&_}
+use mathlib.Core.Path.{_≡_, sym, ap, ap₂, _∙_}
+use mathlib.Core.Bool.{true, false}
 use mathlib.Core.List.{List}
 use Prim.Native.Nat.{ℕ, _+_, _-_, _/_, _≤_, _<_}
 use native.Mathlib.Omega.{arith}
@@ -28,8 +28,8 @@ use Rattle.ranges.proofs.Facts.{records-are}
 use Rattle.ranges.proofs.Outcomes.{refused-not, answered-then}
 use Rattle.ranges.proofs.Outside.{outside-le}
 use Rattle.loading.specs.Private.Aboard as Aboard
-use Rattle.loading.specs.Private.Aboard.{_with_, ofItem, ofTank, altogether, aboardOf, tanksAboard, ItemsFit, TanksWhole, TanksTried}
-use Rattle.loading.specs.Private.Afloat.{Floats, RowsWhole, RowsUsable, RowsTried, Within}
+use Rattle.loading.specs.Private.Aboard.{_with_, ofItem, ofTank, altogether, aboardOf, tanksAboard, TanksTried}
+use Rattle.loading.specs.Private.Afloat.{Floats, RowsWhole, RowsTried, Within}
 use Rattle.loading.specs.Condition.{tanksFrom, floats, rowsAllowed, conditionOf}
 use Rattle.ranges.specs.Sizes.{wholeRecords, itemWidth, tankWidth, rowWidth, mostItems, mostTanks, leastRows, mostRows}
 use Rattle.loading.specs.Load.{Load, weight}

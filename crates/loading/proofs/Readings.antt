@@ -4,8 +4,8 @@
 --     factor-between, factor-on                the bottom of the unrounded GM, between two rows and at a row's own weight
 --     km-on                                    at a row's own weight, that row's KM
 -- Assumes nothing.
-use mathlib.Core.Path.{_≡_, refl}
-use mathlib.Core.Bool.{Bool, true, false, _&&_}
+use mathlib.Core.Path.{_≡_}
+use mathlib.Core.Bool.{Bool, true, false}
 use Prim.Native.Nat.{ℕ, _-_, _*_, _≤_, _<_}
 use native.Mathlib.Nat.{mul-le-mul, pow-le-pow-left, le-refl, div-one, mul-comm}
 use native.Mathlib.Omega.{arith}

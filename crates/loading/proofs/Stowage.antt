@@ -6,9 +6,9 @@
 --     tank-outside, tank-overfull, tank-passed      what the trial of a tank comes to,
 --     trial-refused, trial-passed, trial-end        and of all
 -- Assumes nothing.
-use mathlib.Core.Path.{_≡_, refl, sym, ap, subst, _∙_}
+use mathlib.Core.Path.{_≡_, ap, subst}
 use mathlib.Core.List.{List, [], _∷_}
-use Prim.Native.Nat.{ℕ, _+_, _-_, _*_, _%_, _≤_, _<_}
+use Prim.Native.Nat.{ℕ, _+_, _-_, _%_, _≤_, _<_}
 use native.Mathlib.Nat.{add-assoc, add-zero}
 use native.Mathlib.Omega.{arith}
 use borrow.Author.Tests.{lt-ltb, le-ltb}
@@ -21,7 +21,7 @@ use Rattle.ranges.specs.Outside.{firstOutside}
 use Rattle.ranges.specs.Refusals.{outOfRange, contentsAboveCapacity, placeOfTanks}
 use Rattle.ranges.proofs.Facts.{within-size, all-within}
 use Rattle.ranges.specs.Sizes.{itemWidth, tankWidth}
-use Rattle.loading.specs.Private.Aboard.{numberAt, sizeAt, itemAt, tankAt, Stowed, StowedItem, StowedIn, ItemsFit, RoomOf, TankFits, altogether, ofTank, tanksAboard, TrialReach, TanksTried}
+use Rattle.loading.specs.Private.Aboard.{numberAt, sizeAt, itemAt, tankAt, StowedItem, StowedIn, ItemsFit, TankFits, altogether, ofTank, tanksAboard, TrialReach, TanksTried}
 use Rattle.loading.specs.Condition.{tanksFrom}
 use Rattle.loading.specs.Records.{tanksOf}
 use Rattle.loading.specs.declared.Aboard.{Aboard}

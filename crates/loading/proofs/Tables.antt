@@ -4,15 +4,14 @@
 --     place-next, place-on, place-between      where W falls from row r on
 -- Assumes nothing.
 use mathlib.Core.Path.{_≡_, refl, sym, ap, _∙_}
-use mathlib.Core.List.{List, [], _∷_}
+use mathlib.Core.List.{List, _∷_}
 use Prim.Native.Nat.{ℕ, zero, suc, _+_, _-_, _≤_, _<_}
-use native.Mathlib.Nat.{add-zero, add-assoc}
+use native.Mathlib.Nat.{add-zero}
 use native.Mathlib.Omega.{arith}
 use borrow.Author.Tests.{lt-ltb, le-ltb, eq-eqb, ne-eqb}
 use Rattle.arithmetic.proofs.Choice.{chosen}
 use Rattle.hydrostatics.specs.Usable.{rowIn}
-use Rattle.hydrostatics.specs.declared.Row.{Row}
-use Rattle.loading.specs.Table.{rowsFrom, tableOf, lastFrom, lastRow, Place, on, between, placeFrom, placeOf}
+use Rattle.loading.specs.Table.{rowsFrom, tableOf, lastFrom, lastRow, on, between, placeFrom}
 
 module _ (rows : List ℕ) where
   pub rows-next : (count r : ℕ) → r < count → rowsFrom rows r (count - r) ≡ rowIn rows r ∷ rowsFrom rows (r + 1) (count - (r + 1))

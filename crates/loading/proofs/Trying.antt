@@ -5,7 +5,7 @@
 --     rows-none, rows-on, tried-bad, tried-all     the table
 -- Assumes nothing.
 use mathlib.Core.Path.{_≡_, refl, sym, ap, ap₂, _∙_}
-use mathlib.Core.Bool.{Bool, true, false, _&&_, _||_}
+use mathlib.Core.Bool.{Bool, true, false, _||_}
 use mathlib.Core.List.{List, map}
 use Prim.Native.Nat.{ℕ, zero, suc, _+_, _*_, _-_, _/_, _≤_, _<_}
 use native.Mathlib.Nat.{le-refl}
@@ -16,7 +16,6 @@ use borrow.Author.Tests.{eq-eqb, ne-eqb, lt-ltb, le-ltb}
 use lib.Dec.{ltb, eqb}
 use lib.IntN.{pos}
 use lib.ListN.{length}
-use Rattle.arithmetic.specs.Choice.{if_then_else_}
 use Rattle.arithmetic.proofs.Choice.{chosen}
 use Rattle.hydrostatics.specs.Row.{numbersOf, waterlineOf}
 use Rattle.hydrostatics.specs.Usable.{rowIn, inRange, spaced, rises, metacentreFits, usableRow, usableUpTo}

@@ -6,23 +6,23 @@
 --     usable-table         so the table is usable in the words of demand 3
 -- Assumes nothing.
 use mathlib.Core.Path.{_≡_, refl, sym, ap, subst, _∙_}
-use mathlib.Core.Bool.{Bool, true, false, _&&_}
-use mathlib.Core.List.{List, [], _∷_, map}
-use Prim.Native.Nat.{ℕ, zero, suc, _+_, _*_, _-_, _/_, _≤_, _<_}
+use mathlib.Core.Bool.{true, _&&_}
+use mathlib.Core.List.{List, map}
+use Prim.Native.Nat.{ℕ, zero, suc, _+_, _*_, _-_, _≤_, _<_}
 use native.Mathlib.Nat.{mul-comm}
 use native.Mathlib.Numerals.{add-one}
 use native.Mathlib.Decide.{decLt}
 use native.Mathlib.Omega.{arith}
 use borrow.Author.Tests.{ltb-true, eqb-true}
-use lib.Dec.{ltb, eqb}
+use lib.Dec.{eqb}
 use lib.IntN.{pos}
 use lib.ListN.{length}
 use Rattle.arithmetic.specs.Choice.{if_then_else_}
 use Rattle.arithmetic.proofs.Tests.{both}
 use Rattle.hydrostatics.specs.Row.{numbersOf, waterlineOf}
 use Rattle.hydrostatics.specs.Usable.{seven, rowIn, spacing, inRange, spaced, rises, metacentreFits, usableRow, usableUpTo}
-use Rattle.ranges.specs.Fields.{within, rangeOf, least, most, rowRanges, highestMetacentre}
-use Rattle.ranges.specs.Outcome.{Outcome, answered, refused, andThen}
+use Rattle.ranges.specs.Fields.{within, rangeOf, least, most, rowRanges}
+use Rattle.ranges.specs.Outcome.{answered}
 use Rattle.ranges.specs.Outside.{firstOutside}
 use Rattle.ranges.specs.Refusals.{rowsNotUsable}
 use Rattle.ranges.specs.Sizes.{rowWidth}
@@ -30,7 +30,7 @@ use Rattle.ranges.proofs.Facts.{within-whole}
 use Rattle.ranges.proofs.Outcomes.{was-passed, answered-then}
 use Rattle.hydrostatics.proofs.InRows.{RowInRange, row-in-range}
 use Rattle.hydrostatics.proofs.Reading.{seven-are}
-use Rattle.loading.specs.Private.Afloat.{RowsWhole, RowsUsable}
+use Rattle.loading.specs.Private.Afloat.{RowsUsable}
 use Rattle.loading.proofs.Laws.{Waterlines, last, next, Usable}
 use Rattle.loading.specs.Table.{tableOf, rowsFrom}
 

@@ -1,5 +1,4 @@
 // What the items bring aboard.
-ghost use mathlib.Core.Path.{_≡_};
 ghost use Rattle.loading.specs.Private.Aboard.{Brought, ItemsFit, mostInItems, altogether, ofItem};
 ghost use Rattle.loading.specs.Records.{itemsOf};
 use crate::Aboard;

@@ -22,7 +22,7 @@ use Rattle.ranges.specs.Sizes.{longestFile, itemWidth, tankWidth, roomForHalfBr
 use Rattle.ranges.specs.declared.Particulars.{Particulars}
 use Rattle.ranges.specs.declared.Refusal.{Refusal}
 use Rattle.offsets.specs.File.{Contents, file}
-use Rattle.offsets.specs.Reader.{readerOf, summarised, Reads}
+use Rattle.offsets.specs.Reader.{readerOf, Reads}
 use Rattle.offsets.specs.Private.Steps.{Sized, Rooms, Parses, hullIn, onParsed}
 use Rattle.offsets.specs.Tokens.{tokens}
 use Rattle.offsets.specs.declared.Read.the-variants.{Sheet, Refused}

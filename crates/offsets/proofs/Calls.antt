@@ -6,7 +6,7 @@
 -- Assumes nothing.
 use mathlib.Core.Path.{_≡_, refl, sym, ap, _∙_}
 use mathlib.Core.List.{List, [], _∷_, _++_, map}
-use Prim.Native.Nat.{ℕ, _*_, _/_, _≤_}
+use Prim.Native.Nat.{ℕ, _*_, _≤_}
 use native.Mathlib.Omega.{arith}
 use lib.IntN.{ℤ, pos, natAbs}
 use lib.ListN.{length, take, drop, length-map}
@@ -14,7 +14,7 @@ use lib.Seq.{take-at}
 use Rattle.ranges.specs.Fields.{item, tank}
 use Rattle.ranges.specs.Outcome.{Outcome, answered, refused, answerWith, leftWith}
 use Rattle.ranges.specs.Outside.{particularsOf}
-use Rattle.ranges.specs.Sizes.{longestFile, pointsOf, itemWidth, tankWidth, roomForHalfBreadths, roomForItems, roomForTanks}
+use Rattle.ranges.specs.Sizes.{longestFile, pointsOf, itemWidth, tankWidth}
 use Rattle.ranges.specs.declared.Particulars.{Particulars}
 use Rattle.ranges.proofs.Outcomes.{refused-not, not-refused, with-answered}
 use Rattle.offsets.specs.Back.{RoomForAnyFile, ReadBack, summaryWith}

@@ -17,7 +17,7 @@ use Rattle.ranges.specs.Sizes.{longestFile, itemWidth, tankWidth}
 use Rattle.ranges.specs.declared.Particulars.{Particulars}
 use Rattle.ranges.proofs.Facts.{particulars-in-range, half-breadths-in-range}
 use Rattle.offsets.specs.Private.Putting.{Passes, RoomFor, RoomForStations, RoomForSection, Puts, hullText, stationsText}
-use Rattle.offsets.specs.Writer.{writerOf, lengthOf, roomAfter, Writes}
+use Rattle.offsets.specs.Writer.{writerOf, Writes}
 use Rattle.offsets.specs.Written.{sectionText, textOf}
 use Rattle.offsets.specs.declared.Written.{Written}
 use Rattle.offsets.specs.declared.Written.the-variants.{Wrote, Refused}

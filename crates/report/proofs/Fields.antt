@@ -9,14 +9,14 @@ use Prim.Native.Nat.{ℕ, zero, suc, _+_, _*_, _-_, _≤_, _<_}
 use mathlib.Core.Bool.{Bool, true, false}
 use mathlib.Core.Path.{_≡_, refl, sym, ap, _∙_}
 use mathlib.Core.List.{List, [], _∷_, _++_, map, map-append, append-assoc, append-nil}
-use native.Mathlib.Nat.{add-zero, add-assoc}
+use native.Mathlib.Nat.{add-zero}
 use native.Mathlib.Numerals.{add-one}
 use native.Mathlib.Omega.{arith}
 use lib.IntN.{ℤ, pos}
 use lib.ListN.{length, take, drop, getD}
 use lib.Seq.{take-length}
 use mir.Val.{boolByte}
-use Rattle.arithmetic.proofs.Parts.{take-step, drop-step}
+use Rattle.arithmetic.proofs.Parts.{take-step}
 use Rattle.hydrostatics.specs.Row.{numbersOf}
 use Rattle.hydrostatics.specs.Usable.{rowIn}
 use Rattle.hydrostatics.proofs.Reading.{seven-are}

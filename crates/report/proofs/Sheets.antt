@@ -34,19 +34,19 @@ use Rattle.loading.specs.declared.Answer.the-variants as Answer
 use Rattle.loading.specs.declared.Condition.{Condition}
 use Rattle.offsets.specs.File.{Contents}
 use Rattle.offsets.specs.Reader as Reader
-use Rattle.offsets.specs.Reader.{Reads, readerOf, summaryOf, summarised}
+use Rattle.offsets.specs.Reader.{Reads, readerOf, summaryOf}
 use Rattle.offsets.specs.declared.Read.{Read as ReadAnswer}
 use Rattle.offsets.specs.declared.Read.the-variants as ReadAnswer
 use Rattle.offsets.specs.declared.Summary.{Summary}
 use Rattle.offsets.proofs.Calls.{halfBreadthsRead, itemsRead, tanksRead, contents-read}
 use Rattle.offsets.proofs.Sound.{hull-most, points-le}
 use Rattle.ranges.specs.Fields.{most, rangeOf}
-use Rattle.ranges.specs.Outcome.{Outcome, answered, refused, answerWith, leftWith}
+use Rattle.ranges.specs.Outcome.{answered, leftWith}
 use Rattle.ranges.specs.Refusals.{roomTooShort}
 use Rattle.ranges.specs.Sizes.{pointsOf, rowsOver, rowWidth, mostItems, mostTanks, roomForHalfBreadths, roomForItems, roomForTanks, roomForRows}
 use Rattle.ranges.specs.declared.Particulars.{Particulars}
 use Rattle.ranges.specs.declared.Refusal.{Refusal}
-use Rattle.ranges.proofs.Outcomes.{refused-not, answer-same, not-refused, with-refused}
+use Rattle.ranges.proofs.Outcomes.{answer-same, not-refused, with-refused}
 use Rattle.report.specs.Lines.{conditionLine, refusalLine}
 use Rattle.report.specs.Promise.{reportOf, Reports}
 use Rattle.report.specs.Private.Putting.{Ready, Puts, WholeRows, longestSheet, mostConditionLine, mostRefusalLine, mostRowLine}

@@ -2,14 +2,14 @@
 --     apart     so it is of every outcome whose refusals have these numbers
 --     report-apart, read-apart, write-apart, rows-apart, display-apart, condition-apart     and so of each call, by what it promises
 -- Assumes nothing.
-use Prim.Native.Nat.{ℕ, _≤_}
+use Prim.Native.Nat.{ℕ}
 use mathlib.Core.Path.{_≡_, ap, sym, _∙_}
 use mathlib.Core.List.{List}
 use native.Mathlib.Omega.{arith}
 use lib.Ieee.{Float}
 use lib.IntN.{ℤ}
 use lib.ListN.{length}
-use Rattle.ranges.specs.Outcome.{Outcome, answered, refused, Numbered}
+use Rattle.ranges.specs.Outcome.{Outcome, Numbered}
 use Rattle.ranges.specs.declared.Particulars.{Particulars}
 use Rattle.ranges.proofs.Numbered.{with-numbered}
 use Rattle.offsets.specs.Reader.{readerOf, summaryOf, summarised}

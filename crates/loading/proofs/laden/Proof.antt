@@ -1,5 +1,5 @@
 -- Against the first row, against the last, and else afloat between them. Assumes nothing.
-use mathlib.Core.Path.{_≡_, refl, sym, ap, _∙_}
+use mathlib.Core.Path.{refl, sym, ap, _∙_}
 use native.Mathlib.Omega.{arith}
 use Rattle.loading.specs.Promise.{paper}
 use Rattle.loading.specs.Private.Afloat.{Within}

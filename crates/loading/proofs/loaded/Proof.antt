@@ -1,7 +1,7 @@
 -- A tank's refusal is passed on; else what items and tanks bring goes against the rows. Assumes nothing.
-use mathlib.Core.Path.{_≡_, sym, ap, subst, _∙_}
+use mathlib.Core.Path.{subst, _∙_}
 use native.Mathlib.Omega.{arith}
-use Rattle.loading.specs.Private.Aboard.{Bearable, TrialReach}
+use Rattle.loading.specs.Private.Aboard.{TrialReach}
 use Rattle.loading.proofs.Order.{after-refused, after-passed}
 use Rattle.loading.proofs.Reaches.{reach-less, reach-with}
 use borrow.Author.Needs.{needs}

@@ -12,7 +12,7 @@ use Rattle.ranges.specs.Refusals.{rowsNotUsable}
 use Rattle.ranges.specs.Sizes.{rowWidth, leastRows, mostRows}
 use Rattle.loading.specs.Paper.{paperRules}
 use Rattle.loading.specs.Stability.{kmAt}
-use Rattle.loading.specs.Table.{Table, lastRow, tableOf, placeOf, placeFrom, rowsFrom, draftOf, line}
+use Rattle.loading.specs.Table.{Table, lastRow, tableOf, placeOf, placeFrom, rowsFrom, draftOf}
 use Rattle.loading.specs.declared.floating.Floating.{Floating}
 
 -- "2 to 19 whole rows"

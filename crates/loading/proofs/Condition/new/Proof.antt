@@ -1,11 +1,8 @@
 -- GM and the transverse moment as they were made, and the heel and the pass by them. Assumes nothing.
 use mathlib.Core.Path.{_≡_, _∙_}
 use Prim.Native.Nat.{_+_}
-use native.Mathlib.Omega.{arith}
 use borrow.Author.Needs.{needs}
-use Rattle.arithmetic.specs.Rounding.{roundedUp}
 use Rattle.arithmetic.proofs.Crossing.{back, back-is}
-use Rattle.loading.specs.Stability.{heelOf}
 use Rattle.loading.specs.Private.Steady.{gmOf, transverseOf}
 use Rattle.loading.proofs.Made.{moderate, made}
 use Rattle.loading.proofs.Condition.new.Statement.{statement}

@@ -1,9 +1,8 @@
 -- The walk up the rows while the next is not above the weight. Assumes nothing.
-use mathlib.Core.Path.{_≡_, refl, sym, _∙_}
+use mathlib.Core.Path.{_≡_, refl, _∙_}
 use Prim.Native.Nat.{_+_, _-_, _≤_, _<_}
 use native.Mathlib.Omega.{arith}
 use Rattle.hydrostatics.specs.Usable.{rowIn}
-use Rattle.loading.specs.Private.Afloat.{RowBelow}
 use Rattle.loading.specs.Table.{tableOf, rowsFrom, placeFrom, placeOf}
 use Rattle.loading.proofs.Tables.{place-next}
 use Rattle.loading.proofs.floating.row_below.Statement.{statement}

@@ -1,10 +1,7 @@
 -- GM goes by what lies above 0, and the heel by its outcome. Assumes nothing.
 use mathlib.Core.Path.{_≡_, sym, ap, _∙_}
-use mathlib.Core.Bool.{false, true, _&&_}
-use Prim.Native.Nat.{_≤_, _<_}
 use native.Mathlib.Omega.{arith}
 use borrow.Author.Tests.{le-leb, lt-leb}
-use lib.Dec.{leb}
 use Rattle.arithmetic.proofs.Crossing.{heard}
 use Rattle.loading.specs.Stability.{leastGM, stands}
 use Rattle.loading.specs.Private.Steady.{aboveZero, passesWith}

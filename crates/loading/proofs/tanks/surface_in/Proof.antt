@@ -1,5 +1,5 @@
 -- An empty tank has no surface, nor has a full one; any other is slack. Assumes nothing.
-use mathlib.Core.Path.{_≡_, sym, _∙_}
+use mathlib.Core.Path.{sym, _∙_}
 use native.Mathlib.Omega.{arith}
 use Rattle.loading.specs.Private.Aboard.{tankAt}
 use Rattle.loading.proofs.Rectangles.{surface-empty, surface-full, surface-slack}

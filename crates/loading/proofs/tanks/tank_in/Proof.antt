@@ -1,9 +1,8 @@
 -- The tank's contents at their place, with its surface. Assumes nothing.
-use mathlib.Core.Path.{_≡_, ap, _∙_}
+use mathlib.Core.Path.{_∙_}
 use native.Mathlib.Nat.{add-assoc}
 use native.Mathlib.Omega.{arith}
 use borrow.Author.Needs.{needs}
-use Rattle.loading.specs.Private.Aboard.{weightIn}
 use Rattle.loading.proofs.tanks.tank_in.Statement.{statement}
 use Rattle.loading.proofs.tanks.tank_in.Tie as tie
 

@@ -2,7 +2,7 @@
 use mathlib.Core.Path.{_≡_, sym, _∙_}
 use mathlib.Core.Bool.{true}
 use borrow.Author.Tests.{not-true, not-false}
-use Rattle.hydrostatics.specs.Usable.{spaced, rises}
+use Rattle.hydrostatics.specs.Usable.{spaced}
 use Rattle.loading.proofs.Trying.{unusable-range, unusable-spacing, unusable-rise, usable-by, heights-most}
 use borrow.Author.Needs.{needs}
 use Rattle.loading.proofs.usable.is_usable.Statement.{statement}

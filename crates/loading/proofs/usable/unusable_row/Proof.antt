@@ -1,9 +1,8 @@
 -- The walk over the rows: all before row r are usable. Assumes nothing.
-use mathlib.Core.Path.{_≡_, refl, sym, ap, _∙_}
+use mathlib.Core.Path.{_≡_, sym, _∙_}
 use Prim.Native.Nat.{_-_, _≤_}
 use native.Mathlib.Omega.{arith}
-use borrow.Author.Tests.{not-true, not-false, lt-ltb, le-ltb}
-use Rattle.arithmetic.proofs.Choice.{chosen}
+use borrow.Author.Tests.{not-true, not-false}
 use Rattle.hydrostatics.specs.Usable.{usableUpTo}
 use Rattle.ranges.specs.Outcome.{answered}
 use Rattle.loading.proofs.Trying.{rows-none, rows-on, tried-bad, tried-all}

@@ -1,6 +1,5 @@
 -- Each product fits by the ranges of its factors. Assumes nothing.
-use mathlib.Core.Path.{_≡_, sym, ap, subst, _∙_}
-use Prim.Native.Nat.{_≤_}
+use mathlib.Core.Path.{_≡_}
 use borrow.Author.Needs.{needs}
 use Rattle.arithmetic.proofs.Crossing.{heard}
 use Rattle.arithmetic.proofs.Products.{product-fits}
