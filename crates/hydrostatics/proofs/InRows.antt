@@ -8,7 +8,8 @@ use Prim.Native.Nat.{ℕ, _≤_}
 use native.Mathlib.Omega.{arith}
 use lib.IntN.{pos}
 use Rattle.arithmetic.proofs.Choice.{chosen}
-use Rattle.ranges.specs.Fields.{Range, least, most, rowRanges, rowRange}
+use Rattle.ranges.specs.Fields.{Range, least, most, rowRanges}
+use Rattle.ranges.specs.Private.InRange.{rowRange}
 use Rattle.ranges.specs.Outside.{outsideFrom, firstOutside}
 use Rattle.ranges.specs.Sizes.{rowWidth}
 use Rattle.ranges.proofs.Facts.{all-within, within-whole, whole-within}

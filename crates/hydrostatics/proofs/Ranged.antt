@@ -9,7 +9,8 @@ use mathlib.Core.List.{List}
 use Prim.Native.Nat.{ℕ, _*_, _/_, _≤_, _<_}
 use native.Mathlib.Nat.{mul-assoc, mul-comm, mul-le-mul, mul-le-mul-left, div-le-of-le-mul, le-trans}
 use native.Mathlib.Omega.{arith}
-use Rattle.ranges.specs.Fields.{rangeOf, most, highestMetacentre, rowRange}
+use Rattle.ranges.specs.Fields.{rangeOf, most, highestMetacentre}
+use Rattle.ranges.specs.Private.InRange.{rowRange}
 use Rattle.ranges.specs.declared.Particulars.{Particulars}
 use Rattle.hydrostatics.specs.Hull.{S, Sz, Sx}
 use Rattle.hydrostatics.specs.Row.{waterlineOf, rowAt}

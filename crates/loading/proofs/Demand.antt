@@ -13,7 +13,7 @@ use Rattle.arithmetic.proofs.Rounding.{up-of, up-mono}
 use Rattle.loading.specs.Fraction.{LessThanThreeBelow}
 use Rattle.loading.specs.Load.{Load, weight, verticalMoment, transverseMoment, Lowered}
 use Rattle.loading.specs.Rules.{Rules}
-use Rattle.loading.specs.Stability.{passes, draft, kmAt, gmAt, freeSurface, freeSurfaceParts, km, gm, unroundedGM, Passes}
+use Rattle.loading.specs.Stability.{passes, draft, kmAt, gmAt, freeSurface, freeSurfaceParts, km, gm, unroundedGM}
 use Rattle.loading.specs.Private.Afloat.{Within}
 use Rattle.loading.specs.Straight.{Greatest}
 use Rattle.loading.specs.Table.{Table, placeOf, draftOf}
@@ -24,6 +24,9 @@ use Rattle.loading.proofs.Lowering.{lower-weight, lower-vertical, lower
 use Rattle.loading.proofs.Margin.{less-than-three}
 use Rattle.loading.proofs.Places.{place-stands}
 use Rattle.loading.proofs.Surfaces.{lower-surface, surface-enough, surface-close}
+
+abbrev pub Passes : Rules → Table → Load → Type 0
+Passes rules t l = T (passes (weight l) (gm rules t l) (transverseMoment l))
 
 pub record Demand3 (rules : Rules) (t : Table) : Type 0 where
   pub draft-is-greatest : (l : Load) → Within t (weight l) → Greatest t (weight l) (draft t l)

@@ -12,7 +12,8 @@ use native.Mathlib.Nat.{mul-le-mul-right, mul-add, div-one, zero-mul, zero-add}
 use native.Mathlib.Decide.{decLt}
 use native.Mathlib.Omega.{arith}
 use Rattle.arithmetic.proofs.Rounding.{down-of, down-mono, down-whole}
-use Rattle.ranges.specs.Fields.{highestMetacentre, most, rowRange}
+use Rattle.ranges.specs.Fields.{highestMetacentre, most}
+use Rattle.ranges.specs.Private.InRange.{rowRange}
 use Rattle.hydrostatics.specs.Usable.{rowIn, spacing}
 use Rattle.hydrostatics.specs.declared.Row.{Row}
 use Rattle.loading.specs.Private.Afloat.{RowsUsable, RowBelow, OnLine, Floats, Within}

@@ -9,7 +9,7 @@ use Prim.Native.Nat.{ℕ, _+_, _≤_}
 use native.Mathlib.Nat.{mul-le-mul-left, mul-add}
 use native.Mathlib.Omega.{arith}
 use lib.IntN.{ℤ, pos, negsuc, natAbs}
-use Rattle.ranges.specs.Fields.{most, rangeOf}
+use Rattle.ranges.specs.Fields.{most, yRange}
 use Rattle.ranges.specs.Sides.{sidesOf}
 use Rattle.loading.specs.Private.Aboard.{_with_, weightAt, Stowed, Reach}
 use Rattle.loading.specs.declared.Aboard.{Aboard}
@@ -19,15 +19,15 @@ sides-together (pos n) = omega arith
 sides-together (negsuc n) = omega arith
 
 module _ {heaviest kg x : ℕ} {y : ℤ} {z : ℕ} (s : Stowed heaviest kg x y z) where
-  pub port-most : sidesOf y .port ≤ most (rangeOf 8)
+  pub port-most : sidesOf y .port ≤ most yRange
   port-most = omega (arith, sides-together y)
 
-  pub starboard-most : sidesOf y .starboard ≤ most (rangeOf 8)
+  pub starboard-most : sidesOf y .starboard ≤ most yRange
   starboard-most = omega (arith, sides-together y)
 
   pub reach-weight : (surface : ℕ) → Reach heaviest surface (weightAt kg x y z surface)
   reach-weight surface =
-      let both : sidesOf y .port + sidesOf y .starboard ≤ most (rangeOf 8) = omega (arith, sides-together y) in
+      let both : sidesOf y .port + sidesOf y .starboard ≤ most yRange = omega (arith, sides-together y) in
       record {
         weight = s .kg-most;
         longitudinal = omega (arith, mul-le-mul-left kg (s .x-most));

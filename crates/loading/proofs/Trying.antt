@@ -20,7 +20,8 @@ use Rattle.arithmetic.proofs.Choice.{chosen}
 use Rattle.hydrostatics.specs.Row.{numbersOf, waterlineOf}
 use Rattle.hydrostatics.specs.Usable.{rowIn, inRange, spaced, rises, metacentreFits, usableRow, usableUpTo}
 use Rattle.hydrostatics.specs.declared.Row.{Row}
-use Rattle.ranges.specs.Fields.{within, most, rangeOf, rowRanges, rowRange}
+use Rattle.ranges.specs.Fields.{within, most, rangeOf, rowRanges}
+use Rattle.ranges.specs.Private.InRange.{rowRange}
 use Rattle.ranges.specs.Outcome.{answered, refused, andThen}
 use Rattle.ranges.specs.Outside.{firstOutside}
 use Rattle.ranges.specs.Refusals.{rowsNotUsable}

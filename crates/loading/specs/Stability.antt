@@ -1,7 +1,7 @@
 -- GM, the heel and the pass, by any rules for KM and free surface.
 use mathlib.Core.Bool.{Bool, true, false, _&&_}
 use Prim.Native.Nat.{ℕ, _+_, _*_, _/_}
-use lib.Dec.{T, eqb}
+use lib.Dec.{eqb}
 use lib.Ieee as Ieee
 use lib.Ieee.{Float, binary64}
 use lib.IntN.{ℤ, pos, natAbs, _-ℤ_, _*ℤ_}
@@ -9,7 +9,7 @@ use lib.Signed.{leZ}
 use Rattle.arithmetic.specs.Choice.{if_then_else_}
 use Rattle.arithmetic.specs.Rounding.{roundedUp}
 use Rattle.loading.specs.Fraction.{Fraction, SignedFraction, _over_, _plus_, _per_, _minus_}
-use Rattle.loading.specs.Load.{Load, weight, longitudinalMoment, verticalMoment, transverseMoment}
+use Rattle.loading.specs.Load.{Load, weight, longitudinalMoment, verticalMoment}
 use Rattle.loading.specs.Rules.{Rules, surfaceOf}
 use Rattle.loading.specs.Table.{Table, placeOf, draftOf}
 use Rattle.loading.specs.Total.{total}
@@ -86,6 +86,3 @@ module _ (rules : Rules) where
 
       abbrev pub unroundedGM : SignedFraction
       unroundedGM = unroundedAt (weight l) (verticalMoment l) (freeSurfaceParts l over rules .surface .unit)
-
-      abbrev pub Passes : Type 0
-      Passes = T (passes (weight l) gm (transverseMoment l))

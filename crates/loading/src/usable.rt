@@ -7,7 +7,8 @@ ghost use lib.ListN.{length};
 ghost use Rattle.hydrostatics.specs.Usable.{spaced, rises, usableRow};
 ghost use Rattle.loading.specs.Private.Afloat.{RowsWhole, RowsTried};
 use crate::rows;
-ghost use Rattle.ranges.specs.Fields.{most, rowRange};
+ghost use Rattle.ranges.specs.Fields.{most};
+ghost use Rattle.ranges.specs.Private.InRange.{rowRange};
 ghost use Rattle.ranges.specs.Sizes.{mostRows, rowWidth};
 
 // The field of the distance between waterlines.

@@ -63,10 +63,6 @@ abbrev pub rowRanges : List Range
 rowRanges =
     20 to 10_000 ∷ 1 to 17_600_000 ∷ 0 to 100_000 ∷ 0 to 10_000 ∷ 0 to 100_000 ∷ 0 to highestMetacentre ∷ 0 to 1_600_000_000 ∷ []
 
--- of which one, by its place in the row
-abbrev pub rowRange : ℕ → Range
-rowRange place = getD rowRanges place (1 to 0)
-
 -- all fields by number: those of the file in its order, 0..4 particulars, 5 a half-breadth, 6..9 an item, 10..17 a tank; then 18..24 a row
 abbrev pub fields : List Range
 fields = particulars ++ halfBreadth ++ item ++ tank ++ rowRanges

@@ -5,7 +5,7 @@ use mathlib.Core.Path.{_≡_}
 use mathlib.Core.List.{List, [], _∷_}
 use lib.IntN.{ℤ, pos, natAbs}
 use lib.ListN.{length, getD}
-use Rattle.ranges.specs.Fields.{most, rangeOf, item}
+use Rattle.ranges.specs.Fields.{most, rangeOf, item, xRange, yRange, zRange}
 use Rattle.ranges.specs.Outcome.{Outcome, answered, refused, andThen}
 use Rattle.ranges.specs.Outside.{firstOutside}
 use Rattle.ranges.specs.Sides.{sidesOf}
@@ -85,12 +85,12 @@ tankAt table i = record {
   density = sizeAt table (i + 7);
 }
 
--- ---- within the ranges of the file, whose fields have numbers: 6 to 9 are an item's kg, x, y and z, and 10 a tank's contents
+-- ---- within the ranges of the file, whose fields have numbers: 6 is an item's kg, and 10 a tank's contents
 pub record Stowed (heaviest kg x : ℕ) (y : ℤ) (z : ℕ) : Type 0 where
   pub kg-most : kg ≤ heaviest
-  pub x-most : x ≤ most (rangeOf 7)
-  pub y-most : natAbs y ≤ most (rangeOf 8)
-  pub z-most : z ≤ most (rangeOf 9)
+  pub x-most : x ≤ most xRange
+  pub y-most : natAbs y ≤ most yRange
+  pub z-most : z ≤ most zRange
 
 -- the weight whose kg stand at place `at` of a table, and whose x, y and z from place `spot` on
 abbrev pub StowedIn : List ℤ → ℕ → ℕ → Type 0
@@ -118,9 +118,9 @@ pub record TankFits (t : Tank) : Type 0 where
 -- no more than so many kg and so much free surface, and no weight further off than the ranges allow
 pub record Reach (kg kgmm : ℕ) (a : Aboard) : Type 0 where
   pub weight : a .weight ≤ kg
-  pub longitudinal : a .longitudinal ≤ most (rangeOf 7) * a .weight
-  pub transverse : a .port + a .starboard ≤ most (rangeOf 8) * a .weight
-  pub vertical : a .vertical ≤ most (rangeOf 9) * a .weight
+  pub longitudinal : a .longitudinal ≤ most xRange * a .weight
+  pub transverse : a .port + a .starboard ≤ most yRange * a .weight
+  pub vertical : a .vertical ≤ most zRange * a .weight
   pub surface : a .surface ≤ kgmm
 
 -- the largest free surface of a tank in range, kg·mm: 640,000,000

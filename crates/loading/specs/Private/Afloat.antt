@@ -5,7 +5,8 @@ use mathlib.Core.List.{List}
 use lib.Dec.{ltb}
 use lib.ListN.{length}
 use Rattle.arithmetic.specs.Choice.{if_then_else_}
-use Rattle.ranges.specs.Fields.{most, rowRange, highestMetacentre}
+use Rattle.ranges.specs.Fields.{most, highestMetacentre}
+use Rattle.ranges.specs.Private.InRange.{rowRange}
 use Rattle.hydrostatics.specs.Usable.{rowIn, usableUpTo}
 use Rattle.ranges.specs.Outcome.{answered, refused}
 use Rattle.ranges.specs.Refusals.{rowsNotUsable}

@@ -7,7 +7,7 @@ use lib.IntN.{ℤ, pos, negsuc, natAbs, _-ℤ_}
 use lib.Signed.{leZ}
 use Rattle.arithmetic.specs.Choice.{if_then_else_}
 use Rattle.arithmetic.specs.Rounding.{roundedUp}
-use Rattle.ranges.specs.Fields.{most, rangeOf, highestMetacentre}
+use Rattle.ranges.specs.Fields.{most, highestMetacentre, yRange}
 use Rattle.ranges.specs.Outcome.{Outcome, answered, refused, andThen}
 use Rattle.ranges.specs.Refusals.{tooLight, tooHeavy}
 use Rattle.loading.specs.Private.Aboard.{mostInItems, mostInTanks, Bearable, ItemsFit, TanksWhole}
@@ -61,7 +61,7 @@ pub record Steady (a : Aboard) (km : ℕ) : Type 0 where
 pub record Moderate (weight : ℕ) (gm my : ℤ) : Type 0 where
   pub weight-most : weight ≤ mostInItems + mostInTanks
   pub gm-most : aboveZero gm ≤ highestMetacentre
-  pub my-most : natAbs my ≤ most (rangeOf 8) * (mostInItems + mostInTanks)
+  pub my-most : natAbs my ≤ most yRange * (mostInItems + mostInTanks)
 
 -- what is aboard against a table: 11 below the first row, 12 above the last
 unfoldable pub floatsWith : Table → Aboard → Outcome Condition

@@ -2,7 +2,7 @@
 use Prim.Native.Nat.{ℕ, _≤_}
 use mathlib.Core.List.{List}
 use lib.ListN.{getD}
-use Rattle.ranges.specs.Fields.{rangeOf, least, most}
+use Rattle.ranges.specs.Fields.{Range, _to_, rangeOf, rowRanges, least, most}
 use Rattle.ranges.specs.declared.Particulars.{Particulars}
 
 pub record ParticularsInRange (p : Particulars) : Type 0 where
@@ -20,3 +20,7 @@ pub record ParticularsInRange (p : Particulars) : Type 0 where
 -- beyond the end there is 0
 abbrev pub HalfBreadthsInRange : List ℕ → Type 0
 HalfBreadthsInRange table = (k : ℕ) → getD table k 0 ≤ most (rangeOf 5)
+
+-- the range of one number of a row, by its place in it
+abbrev pub rowRange : ℕ → Range
+rowRange place = getD rowRanges place (1 to 0)

@@ -3,7 +3,8 @@ use native.Mathlib.Nat.{mul-le-mul}
 use native.Mathlib.Omega.{arith}
 use Prim.Native.Nat.{ℕ, _*_, _-_, _≤_}
 use borrow.Author.Needs.{needs}
-use Rattle.ranges.specs.Fields.{highestMetacentre, most, rowRange}
+use Rattle.ranges.specs.Fields.{highestMetacentre, most}
+use Rattle.ranges.specs.Private.InRange.{rowRange}
 use Rattle.loading.specs.Private.Afloat.{OnLine}
 use Rattle.loading.proofs.floating.on_line.Statement.{statement}
 use Rattle.loading.proofs.floating.on_line.Tie as tie
