@@ -5,11 +5,12 @@ use mathlib.Core.Path.{_≡_, sym, ap, _∙_}
 use mathlib.Core.List.{List}
 use Prim.Native.Nat.{ℕ}
 use lib.IntN.{ℤ, pos}
-use Rattle.simpson.proofs.Moments.{curve-exact}
+use Rattle.simpson.proofs.Moments.{curve-exact, answer-exact}
 use Rattle.offsets.proofs.Calls.{write-then-read}
 use Rattle.hydrostatics.specs.Hull.{halfBreadth}
+use Rattle.hydrostatics.specs.Row.{waterlineOf}
 use Rattle.hydrostatics.proofs.Exchange.{Q-is}
-use Rattle.hydrostatics.proofs.MadeRows.{made-rows}
+use Rattle.hydrostatics.proofs.MadeRows.{made-rows, made-area}
 use Rattle.loading.specs.Demand.{LoweredTables, NoWorse}
 use Rattle.loading.specs.declared.Answer.{Answer}
 use Rattle.loading.specs.declared.Answer.the-variants.{Laden}
@@ -45,8 +46,11 @@ demand-2 : Demand2
 demand-2 = record {
   rows-follow-the-rules = made-rows;
   conditions-follow-the-formulas = λ {items} {tanks} {rows} k. (answer-says items tanks rows (sym (k .answer-is)) .1, Third.draft-is-greatest (over k));
-  cubics-get-their-areas = curve-exact;
-  waterlines-get-their-areas = λ table p k a b c e some is. ap pos (Q-is table p k) ∙ curve-exact (p .n) (λ i. halfBreadth table p i k) a b c e some is;
+  curves-get-their-areas = answer-exact;
+  waterlines-get-their-areas = λ {halfBreadths} {p} made r h a b c e is.
+      let k = waterlineOf r in
+      let area-is = made-area made r h in
+      (ap pos (Q-is halfBreadths p k) ∙ curve-exact (p .n) (λ i. halfBreadth halfBreadths p i k) a b c e (area-is .0) is, area-is .1);
   what-is-written-is-read-back = write-then-read;
 }
 

@@ -3,14 +3,15 @@
 -- and no public call has a `requires`.
 use mathlib.Core.Path.{_≡_}
 use mathlib.Core.List.{List}
-use Prim.Native.Nat.{ℕ, _≤_, _<_}
+use Prim.Native.Nat.{ℕ, _-_, _*_, _/_, _≤_, _<_}
 use lib.IntN.{ℤ, pos}
-use lib.ListN.{take}
+use lib.ListN.{length, getD, take}
 use Rattle.ranges.specs.Outcome.{Outcome, refused, Numbered}
 use Rattle.ranges.specs.Sizes.{rowsOver}
 use Rattle.ranges.specs.declared.Particulars.{Particulars}
 use Rattle.simpson.specs.Cubic.{cubic, area}
-use Rattle.simpson.specs.Curve.{curve}
+use Rattle.simpson.specs.Curve.{curveSumOf}
+use Rattle.simpson.specs.declared.CurveSum.the-variants.{Sum}
 use Rattle.offsets.specs.Back.{RoomForAnyFile, ReadBack, summaryWith}
 use Rattle.offsets.specs.Reader as Reader
 use Rattle.offsets.specs.Reader.{Reads}
@@ -24,7 +25,7 @@ use Rattle.hydrostatics.specs.Display.{displayOf}
 use Rattle.hydrostatics.specs.Hull.{halfBreadth, Q}
 use Rattle.hydrostatics.specs.Promise as Rows
 use Rattle.hydrostatics.specs.Promise.{MakesRows}
-use Rattle.hydrostatics.specs.Row.{rowOf}
+use Rattle.hydrostatics.specs.Row.{rowOf, waterlineOf}
 use Rattle.hydrostatics.specs.Usable.{rowIn}
 use Rattle.hydrostatics.specs.declared.Display.{Display as Displayed}
 use Rattle.hydrostatics.specs.declared.Row.{Row}
@@ -84,10 +85,12 @@ pub record Demand2 : Type 0 where
   pub conditions-follow-the-formulas : {items tanks : List ℤ} {rows : List ℕ} {c : Conditions} → IsCondition items tanks rows c
       → (c ≡ conditionAt (hull rows) (loadOf items tanks)) × Greatest (hull rows) (c .weight) (c .draft)
   -- "A half-breadth curve that is a polynomial of third degree or less, with whole-number coefficients, gets its exact area, before rounding, at each count."
-  pub cubics-get-their-areas : (n : ℕ) (y : ℕ → ℕ) (a b c e : ℤ) → 2 ≤ n → ((i : ℕ) → i ≤ n → pos (y i) ≡ cubic a b c e (pos i))
-      → pos (curve n y) ≡ area a b c e (pos n)
-  pub waterlines-get-their-areas : (halfBreadths : List ℕ) (p : Particulars) (k : ℕ) (a b c e : ℤ) → 2 ≤ p .n → ((i : ℕ) → i ≤ p .n → pos (halfBreadth halfBreadths p i k) ≡ cubic a b c e (pos i))
-      → pos (Q halfBreadths p k) ≡ area a b c e (pos (p .n))
+  -- `area` is 24 times it, in intervals; a row's waterplane, both sides of it, is rounded down once
+  pub curves-get-their-areas : (ordinates : List ℕ) (a b c e : ℤ) {sum : ℕ} → Sum sum ≡ curveSumOf ordinates → ((i : ℕ) → i < length ordinates → pos (getD ordinates i 0) ≡ cubic a b c e (pos i))
+      → pos sum ≡ area a b c e (pos (length ordinates - 1))
+  pub waterlines-get-their-areas : {halfBreadths : List ℕ} {p : Particulars} {rows after : List ℕ} {count : ℕ} → MakesRows halfBreadths p rows after (Made count)
+      → (r : ℕ) → r < count → (a b c e : ℤ) → ((i : ℕ) → i ≤ p .n → pos (halfBreadth halfBreadths p i (waterlineOf r)) ≡ cubic a b c e (pos i))
+      → (pos (Q halfBreadths p (waterlineOf r)) ≡ area a b c e (pos (p .n))) × (rowIn after r .area ≡ p .s * Q halfBreadths p (waterlineOf r) / 12)
   -- "What the writer writes, the reader reads back as the same numbers."
   pub what-is-written-is-read-back : {p : Particulars} {h : List ℕ} {i t : List ℤ} {room roomLeft : List ℕ} {count : ℕ} {h₀ h′ : List ℕ} {i₀ i′ t₀ t′ : List ℤ} {answer : Read}
       → Writes p h i t room roomLeft (Wrote count) → RoomForAnyFile h₀ i₀ t₀ → Reads (take count roomLeft) h₀ h′ i₀ i′ t₀ t′ answer

@@ -1,16 +1,18 @@
 -- What stands in the lent table under a success: the paper's row at each waterline from number 2 up.
 --     made-rows        how many rows, and each of them
+--     made-area        the waterplane area of one of them; the hull has two intervals of length or more
 -- Assumes nothing.
 use mathlib.Core.Path.{_≡_, ap, _∙_}
 use mathlib.Core.List.{List}
-use Prim.Native.Nat.{ℕ, _/_, _<_}
+use Prim.Native.Nat.{ℕ, _*_, _/_, _≤_, _<_}
 use native.Mathlib.Omega.{arith}
 use lib.ListN.{length}
 use Rattle.ranges.specs.Sizes.{rowWidth, rowsOver}
 use Rattle.ranges.specs.declared.Particulars.{Particulars}
 use Rattle.ranges.specs.Outcome.{leftWith}
 use Rattle.hydrostatics.specs.Promise.{tableAfter, MakesRows}
-use Rattle.hydrostatics.specs.Row.{rowOf}
+use Rattle.hydrostatics.specs.Hull.{Q}
+use Rattle.hydrostatics.specs.Row.{rowAt, rowOf, waterlineOf}
 use Rattle.hydrostatics.specs.Rows.{rowsOf}
 use Rattle.hydrostatics.specs.Usable.{rowIn}
 use Rattle.hydrostatics.specs.declared.Rows.the-variants.{Made}
@@ -29,4 +31,12 @@ made-rows {table} {p} {rows} {after} {count} made =
       λ r h.
           rw (left, answered-rows (length rows) so .rows .numbers-are)
           (row-in (numbers-part (rowOf table p) (rowsOver (p .m)) r _ (omega arith))),
+    ))
+
+pub made-area : {table : List ℕ} {p : Particulars} {rows after : List ℕ} {count : ℕ} → MakesRows table p rows after (Made count) → (r : ℕ) → r < count → (2 ≤ p .n) × (rowIn after r .area ≡ p .s * Q table p (waterlineOf r) / 12)
+unfolding rowAt
+made-area {table} {p} {rows} made r h =
+    counted (rowsOf table p (length rows)) (made .answer-is) (λ numbers so e. (
+      answered-rows (length rows) so .hull .particulars .n-least,
+      ap (λ row. row .area) (made-rows made .1 r h),
     ))

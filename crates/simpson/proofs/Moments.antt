@@ -3,14 +3,22 @@
 --     curve-of-cubic                     24an + 12bn² + 8cn³ + 6en⁴
 --     curve-of-one, curve-of-place       two of its four instances: 24n, 12n²
 --     curve-of-square, curve-of-cube     and the other two: 8n³, 6n⁴
+--     answer-exact                       so is the sum that the call answers
 --     curve-le                           a bound on each ordinate bounds the sum, by the rectangle's area
 -- Assumes nothing.
-use mathlib.Core.Path.{_≡_, ap, _∙_}
-use Prim.Native.Nat.{ℕ, zero, suc, _+_, _*_, _^_, _≤_}
+use mathlib.Core.Path.{_≡_, refl, ap, _∙_}
+use mathlib.Core.Bool.{Bool, true, false}
+use mathlib.Core.List.{List}
+use Prim.Native.Nat.{ℕ, zero, suc, _+_, _-_, _*_, _^_, _≤_, _<_}
 use native.Mathlib.Omega.{arith}
+use borrow.Author.Tests.{ltb-false}
+use lib.Dec.{ltb}
 use lib.IntN.{ℤ, pos}
-use Rattle.simpson.specs.Curve.{curve}
+use lib.ListN.{length, getD}
+use Rattle.arithmetic.specs.Choice.{if_then_else_}
+use Rattle.simpson.specs.Curve.{curve, curveSumOf}
 use Rattle.simpson.specs.Cubic.{cubic, area}
+use Rattle.simpson.specs.declared.CurveSum.the-variants.{Sum, TooShort, TooLarge}
 use Rattle.simpson.proofs.Exact.{curveℤ-of-cubic}
 use Rattle.arithmetic.proofs.Whole.{pos-injective, pos-pow}
 use Rattle.simpson.proofs.Curves.{pos-curve, curve-same, curveℤ-same, curve-times, curve-mono, curve-few}
@@ -44,3 +52,27 @@ curve-le (suc zero) b y h = omega (arith, curve-few 1 y (omega arith))
 curve-le (suc (suc n)) b y h =
     let m = suc (suc n) in
     omega (arith, curve-mono m y (λ i. b * 1) (λ i l. omega (arith, h i l)), curve-times m b (λ i. 1), ap (λ s. b * s) (curve-of-one m (omega arith)))
+
+-- ---- the call's answer
+-- no sum is another answer
+not-short : {X : Type 0} {s : ℕ} → Sum s ≡ TooShort → X
+not-short e = let z : _≡_ {A = ℕ} 0 1 = cc e in absurd (omega arith)
+
+not-large : {X : Type 0} {s : ℕ} → Sum s ≡ TooLarge → X
+not-large e = let z : _≡_ {A = ℕ} 0 1 = cc e in absurd (omega arith)
+
+-- what the two tests say where there is a sum
+sum-told : (short fits : Bool) (total : ℕ) {s : ℕ} → Sum s ≡ (if short then TooShort else if fits then Sum total else TooLarge) → (short ≡ false) × (s ≡ total)
+unfolding if_then_else_
+sum-told true fits total e = not-short e
+sum-told false true total e = (refl, cc e)
+sum-told false false total e = not-large e
+
+-- of an answered sum over ordinates that are a cubic's
+pub answer-exact : (ordinates : List ℕ) (a b c e : ℤ) {s : ℕ} → Sum s ≡ curveSumOf ordinates → ((i : ℕ) → i < length ordinates → pos (getD ordinates i 0) ≡ cubic a b c e (pos i)) → pos s ≡ area a b c e (pos (length ordinates - 1))
+unfolding curveSumOf
+answer-exact ordinates a b c e so is =
+    let n = length ordinates - 1 in
+    let tests = sum-told (ltb (length ordinates) 3) (ltb (curve n (λ i. getD ordinates i 0)) (2 ^ 64)) (curve n (λ i. getD ordinates i 0)) so in
+    let long : 3 ≤ length ordinates = ltb-false (length ordinates) 3 (tests .0) in
+    ap pos (tests .1) ∙ curve-exact n (λ i. getD ordinates i 0) a b c e (omega arith) (λ i l. is i (omega arith))
