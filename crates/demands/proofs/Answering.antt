@@ -39,7 +39,7 @@ use Rattle.hydrostatics.specs.declared.Rows.the-variants as MadeOrNot
 use Rattle.hydrostatics.proofs.Numbered.{rows-numbered, display-numbered}
 use Rattle.hydrostatics.proofs.Unique.{makes-rows-unique, display-unique}
 use Rattle.loading.specs.Condition.{conditionOf}
-use Rattle.loading.specs.Promise as Condition
+use Rattle.loading.specs.Promise as Loading
 use Rattle.loading.specs.declared.Answer.the-variants as Answer
 use Rattle.loading.proofs.Numbered.{condition-numbered}
 use Rattle.loading.proofs.Unique.{makes-condition-unique}
@@ -149,9 +149,9 @@ display-answers row =
       untouched = λ e. tt;
     }
 
-pub condition-answers : (items tanks : List ℤ) (rows : List ℕ) → AnswersOrRefuses (Conditioned items tanks rows) Condition.paper (λ answer. Unit)
+pub condition-answers : (items tanks : List ℤ) (rows : List ℕ) → AnswersOrRefuses (Conditioned items tanks rows) Loading.paper (λ answer. Unit)
 condition-answers items tanks rows =
-    let t = told Condition.paper Answer.Laden Answer.Refused (λ v. refl) (λ r. refl) (conditionOf items tanks rows) in
+    let t = told Loading.paper Answer.Laden Answer.Refused (λ v. refl) (λ r. refl) (conditionOf items tanks rows) in
     let kept : Conditioned items tanks rows (t .answer) = record { least-gm-is = refl; heel-limit-is = refl; answer-is = t .is } in
     record {
       back = t .answer;

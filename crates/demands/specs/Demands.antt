@@ -35,7 +35,7 @@ use Rattle.loading.specs.Condition.{conditionAt}
 use Rattle.loading.specs.Demand.{LoweredTables, NoWorse}
 use Rattle.loading.specs.Fraction.{LessThanThreeBelow}
 use Rattle.loading.specs.Paper.{paperRules}
-use Rattle.loading.specs.Promise as Condition
+use Rattle.loading.specs.Promise as Loading
 use Rattle.loading.specs.Promise.{MakesCondition}
 use Rattle.loading.specs.Records.{loadOf}
 use Rattle.loading.specs.Stability.{leastGM, heelLimit, unroundedGM}
@@ -43,7 +43,7 @@ use Rattle.loading.specs.Straight.{Greatest}
 use Rattle.loading.specs.Table.{hull}
 use Rattle.loading.specs.declared.Answer.{Answer}
 use Rattle.loading.specs.declared.Answer.the-variants.{Laden}
-use Rattle.loading.specs.declared.Condition.{Condition as Conditions}
+use Rattle.loading.specs.declared.Condition.{Condition}
 use Rattle.report.specs.Promise as Report
 use Rattle.report.specs.Promise.{Reports}
 use Rattle.report.specs.declared.Report.{Report as Reported}
@@ -54,7 +54,7 @@ use Rattle.demands.specs.Answering.{AnswersOrRefuses}
 abbrev pub Conditioned : List ℤ → List ℤ → List ℕ → Answer → Type 0
 Conditioned items tanks rows answer = MakesCondition leastGM heelLimit items tanks rows answer
 
-abbrev pub IsCondition : List ℤ → List ℤ → List ℕ → Conditions → Type 0
+abbrev pub IsCondition : List ℤ → List ℤ → List ℕ → Condition → Type 0
 IsCondition items tanks rows c = Conditioned items tanks rows (Laden c)
 
 -- "1. Every file and every lent table gets either its answer or one numbered refusal, and the work always ends. The public calls test everything themselves.
@@ -72,7 +72,7 @@ pub record Demand1 : Type 1 where
   pub of-the-display : (row : Row)
       → AnswersOrRefuses (λ (answer : Displayed). Display.paper answer ≡ displayOf row) Display.paper (λ answer. Unit)
   pub of-the-condition : (items tanks : List ℤ) (rows : List ℕ)
-      → AnswersOrRefuses (Conditioned items tanks rows) Condition.paper (λ answer. Unit)
+      → AnswersOrRefuses (Conditioned items tanks rows) Loading.paper (λ answer. Unit)
   -- and as the calls for other languages tell it, by a number: 0, or the refusal's; with its place, and the values as they were
   pub told-by-a-number : {A B : Type 0} {value : A → B} {outcome : Outcome A} {was left : B} {place placeLeft number : ℕ} → Numbered outcome → Tells value outcome was left place placeLeft number
       → Apart outcome number × ((n p : ℕ) → outcome ≡ refused n p → (placeLeft ≡ p) × (left ≡ was))
@@ -82,7 +82,7 @@ pub record Demand2 : Type 0 where
   pub rows-follow-the-rules : {halfBreadths : List ℕ} {p : Particulars} {rows after : List ℕ} {count : ℕ} → MakesRows halfBreadths p rows after (Made count)
       → (count ≡ rowsOver (p .m)) × ((r : ℕ) → r < count → rowIn after r ≡ rowOf halfBreadths p r)
   -- "A condition's draft, KM, GM and heel outcome follow its formulas."
-  pub conditions-follow-the-formulas : {items tanks : List ℤ} {rows : List ℕ} {c : Conditions} → IsCondition items tanks rows c
+  pub conditions-follow-the-formulas : {items tanks : List ℤ} {rows : List ℕ} {c : Condition} → IsCondition items tanks rows c
       → (c ≡ conditionAt (hull rows) (loadOf items tanks)) × Greatest (hull rows) (c .weight) (c .draft)
   -- "A half-breadth curve that is a polynomial of third degree or less, with whole-number coefficients, gets its exact area, before rounding, at each count."
   -- `area` is 24 times it, in intervals; a row's waterplane, both sides of it, is rounded down once
@@ -98,17 +98,17 @@ pub record Demand2 : Type 0 where
 
 pub record Demand3 : Type 0 where
   -- "3. With one row table, the heavier of two answered conditions never has the smaller draft, and equal weights have the same draft and KM."
-  pub heavier-never-floats-higher : {items tanks items′ tanks′ : List ℤ} {rows : List ℕ} {c d : Conditions} → IsCondition items tanks rows c → IsCondition items′ tanks′ rows d
+  pub heavier-never-floats-higher : {items tanks items′ tanks′ : List ℤ} {rows : List ℕ} {c d : Condition} → IsCondition items tanks rows c → IsCondition items′ tanks′ rows d
       → c .weight ≤ d .weight → c .draft ≤ d .draft
-  pub equal-weights-float-alike : {items tanks items′ tanks′ : List ℤ} {rows : List ℕ} {c d : Conditions} → IsCondition items tanks rows c → IsCondition items′ tanks′ rows d
+  pub equal-weights-float-alike : {items tanks items′ tanks′ : List ℤ} {rows : List ℕ} {c d : Condition} → IsCondition items tanks rows c → IsCondition items′ tanks′ rows d
       → c .weight ≡ d .weight → (c .draft ≡ d .draft) × (c .km ≡ d .km)
   -- "Take an answered condition and only lower items or tanks, or reduce a tank's length, breadth or liquid density, each staying in its range.
   -- GM does not fall, and a condition that passed still passes."
-  pub lowering-never-costs-the-answer : {items′ tanks′ items tanks : List ℤ} {rows : List ℕ} {c : Conditions} {answer : Answer} → IsCondition items tanks rows c
+  pub lowering-never-costs-the-answer : {items′ tanks′ items tanks : List ℤ} {rows : List ℕ} {c : Condition} {answer : Answer} → IsCondition items tanks rows c
       → LoweredTables items′ tanks′ items tanks → Conditioned items′ tanks′ rows answer
-      → (d : Conditions) × (answer ≡ Laden d) × NoWorse d c
+      → (d : Condition) × (answer ≡ Laden d) × NoWorse d c
   -- "The GM given is never above the unrounded GM over the same rows, and less than 3 mm below it."
-  pub gm-is-close : {items tanks : List ℤ} {rows : List ℕ} {c : Conditions} → IsCondition items tanks rows c
+  pub gm-is-close : {items tanks : List ℤ} {rows : List ℕ} {c : Condition} → IsCondition items tanks rows c
       → LessThanThreeBelow (c .gm) (unroundedGM paperRules (hull rows) (loadOf items tanks))
 
 pub record Demands : Type 1 where
