@@ -1,4 +1,4 @@
--- Tables and particulars whose numbers are all in range, as facts that proofs and private functions rest on. The numbers are those of `Fields`.
+-- Tables and particulars whose numbers are all in range, as facts that proofs and private functions rest on, and one range of a row. The numbers are those of `Fields`.
 use Prim.Native.Nat.{ℕ, _≤_}
 use mathlib.Core.List.{List}
 use lib.ListN.{getD}
