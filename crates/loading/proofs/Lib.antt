@@ -25,5 +25,6 @@ pub mod Unique
 pub mod Answers
 pub mod Lowered
 pub mod Demand3
+pub mod PressedUp
 pub mod Figures
 pub mod Numbered

@@ -82,6 +82,7 @@ module _ (table : List ℤ) (i : ℕ) (there : i + tankWidth ≤ length table) w
         let most-of = field-most tank (eightAt table i) inside in
         record {
           stowed = record { kg-most = most-of 0 (omega arith); x-most = most-of 2 (omega arith); y-most = most-of 3 (omega arith); z-most = most-of 4 (omega arith) };
+          capacity-most = most-of 1 (omega arith);
           room = record { length-most = most-of 5 (omega arith); breadth-most = most-of 6 (omega arith); density-most = most-of 7 (omega arith) };
         }
 

@@ -1,4 +1,4 @@
--- "Trial figures": those that the paper marks P, as one table. That the definitions give each of them: `figures` of proofs/.
+-- "Trial figures": those that the paper marks P, and change request 1's on both sides of 98 per cent, as one table. That the definitions give each of them: `figures` of proofs/.
 use Prim.Native.Nat.{ℕ, zero, suc, _+_, _^_}
 use mathlib.Core.List.{List, [], _∷_}
 use lib.IntN.{pos}
@@ -28,7 +28,9 @@ trialFigures =
     ∷ (tankWith 5_000 has 1_333_334)
     ∷ (tankWith 8_000 has 0)
     ∷ (tankWith 0 has 0)
-    ∷ (tankWith 7_999 has 1_333_334)
+    ∷ (tankWith 7_999 has 0)
+    ∷ (tankWith 7_840 has 0)
+    ∷ (tankWith 7_839 has 1_333_334)
     ∷ []
 
 -- f at 0, 1, …, n − 1

@@ -16,9 +16,16 @@ onLine (between r s) W = line (r .km) (s .km) (r .displacement) (s .displacement
 abbrev pub straightLine : Reading
 straightLine = record { given = λ p W. onLine p W .top / onLine p W .bottom; unrounded = onLine }
 
--- "when 0 < contents < capacity"
+-- "filled to 98 per cent or more": so many hundredths of its capacity, and a tank is pressed up
+abbrev pub pressedUp : ℕ
+pressedUp = 98
+
+abbrev pub hundredths : ℕ
+hundredths = 100
+
+-- "A tank is slack when contents are above 0 and 100 times contents is below 98 times capacity."
 unfoldable pub slack : Tank → Bool
-slack t = ltb 0 (t .contents) && ltb (t .contents) (t .capacity)
+slack t = ltb 0 (t .contents) && ltb (hundredths * t .contents) (pressedUp * t .capacity)
 
 -- "length · breadth³ · liquid density / 12,000,000,000 kg·mm, rounded up; otherwise 0"
 unfoldable pub rectangleParts : Tank → ℕ

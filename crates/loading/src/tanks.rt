@@ -21,6 +21,11 @@ pub(crate) enum Trial {
 // 12,000,000,000 parts of a surface, mm⁴ · kg/m³, are one kg·mm.
 const PARTS: u64 = 12_000_000_000;
 
+// Filled to so many hundredths of its capacity, a tank is pressed up.
+const PRESSED_UP: u64 = 98;
+
+const HUNDREDTHS: u64 = 100;
+
 // The free surface of a slack tank.
 fn slack_surface(length: u64, breadth: u64, density: u64) -> u64
     requires { ⌜ RoomOf length breadth density ⌝ }
@@ -29,7 +34,7 @@ fn slack_surface(length: u64, breadth: u64, density: u64) -> u64
     arithmetic::rounded_up(length * (breadth * breadth * breadth) * density, PARTS)
 }
 
-// The free surface of the tank at place i of a table: 0 where it is empty or full.
+// The free surface of the tank at place i of a table: 0 where it is empty or pressed up.
 fn surface_in(tanks: &[i64], i: usize) -> u64
     requires { ⌜ (i + tankWidth ≤ length (now tanks)) × TankFits (tankAt (now tanks) i) ⌝ }
     ensures { λ r. ⌜ r ≡ surfaceOf rectangle (tankAt (now (tanks .entry)) i) ⌝ }
@@ -39,7 +44,7 @@ fn surface_in(tanks: &[i64], i: usize) -> u64
         return 0;
     }
     let capacity = arithmetic::size_at(tanks, i + 1);
-    if capacity <= contents {
+    if PRESSED_UP * capacity <= HUNDREDTHS * contents {
         return 0;
     }
     let length = arithmetic::size_at(tanks, i + 5);

@@ -111,8 +111,10 @@ pub record RoomOf (length breadth density : ℕ) : Type 0 where
   pub breadth-most : breadth ≤ most (rangeOf 16)
   pub density-most : density ≤ most (rangeOf 17)
 
+-- 11 is a tank's capacity
 pub record TankFits (t : Tank) : Type 0 where
   pub stowed : StowedTank t
+  pub capacity-most : t .capacity ≤ most (rangeOf 11)
   pub room : RoomOf (t .length) (t .breadth) (t .density)
 
 -- no more than so many kg and so much free surface, and no weight further off than the ranges allow

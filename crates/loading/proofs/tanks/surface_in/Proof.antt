@@ -1,8 +1,8 @@
--- An empty tank has no surface, nor has a full one; any other is slack. Assumes nothing.
-use mathlib.Core.Path.{sym, _∙_}
+-- An empty tank has no surface, nor has one that is pressed up; any other is slack. Assumes nothing.
+use mathlib.Core.Path.{_∙_}
 use native.Mathlib.Omega.{arith}
 use Rattle.loading.specs.Private.Aboard.{tankAt}
-use Rattle.loading.proofs.Rectangles.{surface-empty, surface-full, surface-slack}
+use Rattle.loading.proofs.Rectangles.{surface-empty, surface-pressed-up, surface-slack}
 use borrow.Author.Needs.{needs}
 use Rattle.loading.proofs.tanks.surface_in.Statement.{statement}
 use Rattle.loading.proofs.tanks.surface_in.Tie as tie
@@ -13,7 +13,7 @@ size-at-requires c κs = search needs
 returns : tie.Need-returns
 returns c =
     let s = c .before .before .args in
-    surface-empty (tankAt (s .tanks .now) (s .i)) (sym (c .before .size-at .ensures) ∙ c .if1 .taken)
+    surface-empty (tankAt (s .tanks .now) (s .i)) (omega arith)
 
 add-size-at : tie.Need-add-size-at
 add-size-at c = search needs
@@ -21,10 +21,16 @@ add-size-at c = search needs
 size-at-requires-2 : tie.Need-size-at-requires-2
 size-at-requires-2 c κs = search needs
 
+mul-if2 : tie.Need-mul-if2
+mul-if2 c = search needs
+
+mul-if2-2 : tie.Need-mul-if2-2
+mul-if2-2 c = search needs
+
 returns-2 : tie.Need-returns-2
 returns-2 c =
     let s = c .before .before .before .before .args in
-    surface-full (tankAt (s .tanks .now) (s .i)) (omega arith)
+    surface-pressed-up (tankAt (s .tanks .now) (s .i)) (omega arith)
 
 add-size-at-2 : tie.Need-add-size-at-2
 add-size-at-2 c = search needs
@@ -62,6 +68,8 @@ surface-in-spec =
     returns
     add-size-at
     size-at-requires-2
+    mul-if2
+    mul-if2-2
     returns-2
     add-size-at-2
     size-at-requires-3
