@@ -113,13 +113,15 @@ fn three(kg: [i64; 3], y: [i64; 3]) {
     try_load(&items, &[], &ROWS);
 }
 
-// A tank half full, full, empty and all but full.
+// A tank half full, full, empty, full but for a kilogram, at 98 per cent and a kilogram below it; and one too full.
 fn tanks() {
     say::bytes(b"tanks\n");
     one_tank(5_000);
     one_tank(8_000);
     one_tank(0);
     one_tank(7_999);
+    one_tank(7_840);
+    one_tank(7_839);
     one_tank(8_001);
 }
 

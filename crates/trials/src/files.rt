@@ -1,4 +1,4 @@
-// The files of data/, NNN.txt with the answer NNN.out: up to 119 an independent calculation's, the others document 01's own figures.
+// The files of data/: every NNN.txt with the answer NNN.out beside it. Below 900 an independent calculation's, from 900 on document 01's own figures.
 ghost use Prim.Native.Nat.{_+_, _≤_};
 ghost use lib.ListN.{length};
 ghost use Rattle.ranges.specs.Sizes.{roomForHalfBreadths};
@@ -8,48 +8,54 @@ use offsets::Written;
 use ranges::Particulars;
 use report::Report;
 
-const FILES: u64 = 127;
+// Files are numbered by three digits.
+const NUMBERS: u64 = 1_000;
 
 // One byte more than a file may have.
 const LONGEST_INPUT: usize = ranges::LONGEST_FILE + 1;
 
-// What trying a file shows: whether its sheet is the answer beside it, whether the reader refuses it, and whether what it reads,
-// written and read again, is the same.
+// What trying a file shows: whether its sheet differs from the answer beside it, whether the reader reads or refuses it, and whether
+// what it reads, written and read again, is changed.
 struct Trial {
-    agrees: bool,
+    differs: bool,
+    read: bool,
     refused: bool,
-    alike: bool,
+    changed: bool,
 }
 
-// Prints how many files agree, are refused, and come back alike; and which fail.
+// Prints which files fail and how many, and complains where none is read or none refused.
 pub(crate) fn try_all() {
-    let mut agreed: u64 = 0;
+    let mut differing: u64 = 0;
+    let mut read: u64 = 0;
     let mut refused: u64 = 0;
-    let mut alike: u64 = 0;
+    let mut changed: u64 = 0;
     let mut i: u64 = 0;
-    while i < FILES {
-        let trial = trial_of(i);
-        agreed = counted(agreed, trial.agrees);
+    while i < NUMBERS {
+        let trial = trial_at(i);
+        differing = counted(differing, trial.differs);
+        read = counted(read, trial.read);
         refused = counted(refused, trial.refused);
-        alike = counted(alike, trial.alike);
+        changed = counted(changed, trial.changed);
         print_failing(i, trial);
         i += 1;
     }
-    say::number(b"sheets that agree ", agreed);
-    say::number(b"files refused ", refused);
-    say::number(b"files written and read again alike ", alike);
+    say::number(b"sheets that differ ", differing);
+    say::number(b"files changed when written and read again ", changed);
+    if read == 0 || refused == 0 {
+        say::bytes(b"no file is read, or none refused\n");
+    }
 }
 
 // A file fails where its sheet differs, or it is read and does not come back alike.
 fn print_failing(i: u64, trial: Trial) {
-    if !trial.agrees || trial.refused == trial.alike {
+    if trial.differs || trial.changed {
         say::number(b"fails ", i);
     }
 }
 
 // One more where it is so.
 fn counted(n: u64, is_so: bool) -> u64
-    requires { ⌜ n ≤ 127 ⌝ }
+    requires { ⌜ n ≤ 1000 ⌝ }
     ensures { λ r. ⌜ r ≤ n + 1 ⌝ }
 {
     if is_so {
@@ -62,15 +68,7 @@ fn counted(n: u64, is_so: bool) -> u64
 pub(crate) fn read_data(i: u64, ending: [u8; 3], text: &mut [u8]) -> usize
     ensures { λ r. ⌜ r ≤ length (now (text .exit)) ⌝ }
 {
-    let path = [
-        digit(i / 100),
-        digit(i / 10),
-        digit(i),
-        b'.',
-        ending[0],
-        ending[1],
-        ending[2],
-    ];
+    let path = name_of(i, ending);
     let fd = os::open_read(&path);
     if fd < 0 {
         os::fail(&path);
@@ -85,34 +83,72 @@ fn digit(n: u64) -> u8 {
     b'0' + (n % 10) as u8
 }
 
+fn name_of(i: u64, ending: [u8; 3]) -> [u8; 7] {
+    [
+        digit(i / 100),
+        digit(i / 10),
+        digit(i),
+        b'.',
+        ending[0],
+        ending[1],
+        ending[2],
+    ]
+}
+
+// Whether there is a file of this number.
+fn is_there(i: u64) -> bool {
+    let path = name_of(i, [b't', b'x', b't']);
+    let fd = os::open_read(&path);
+    if fd < 0 {
+        return false;
+    }
+    libc::close(fd);
+    true
+}
+
+// What trying the file of this number shows; nothing where there is none.
+fn trial_at(i: u64) -> Trial {
+    if is_there(i) {
+        return trial_of(i);
+    }
+    Trial {
+        differs: false,
+        read: false,
+        refused: false,
+        changed: false,
+    }
+}
+
 fn trial_of(i: u64) -> Trial {
     let mut text = [0u8; LONGEST_INPUT];
     let count = read_data(i, [b't', b'x', b't'], &mut text);
-    let agrees = is_answer(i, &text[..count]);
+    let differs = !is_answer(i, &text[..count]);
     let mut half_breadths = [0u64; ranges::HALF_BREADTH_ROOM];
     let mut items = [0i64; ranges::ITEM_ROOM];
     let mut tanks = [0i64; ranges::TANK_ROOM];
     match offsets::read_file(&text[..count], &mut half_breadths, &mut items, &mut tanks) {
         Read::Refused(_) => Trial {
-            agrees,
+            differs,
+            read: false,
             refused: true,
-            alike: false,
+            changed: false,
         },
         Read::Sheet(summary) => {
             let p = summary.particulars;
             let points = points_of(p);
             let item_numbers = at_most(summary.items, ranges::MOST_ITEMS) * ranges::ITEM_WIDTH;
             let tank_numbers = at_most(summary.tanks, ranges::MOST_TANKS) * ranges::TANK_WIDTH;
-            let alike = is_same_again(
+            let changed = !is_same_again(
                 p,
                 &half_breadths[..points],
                 &items[..item_numbers],
                 &tanks[..tank_numbers],
             );
             Trial {
-                agrees,
+                differs,
+                read: true,
                 refused: false,
-                alike,
+                changed,
             }
         }
     }
