@@ -24,6 +24,7 @@ const PARTS: u64 = 12_000_000_000;
 // Filled to so many hundredths of its capacity, a tank is pressed up.
 const PRESSED_UP: u64 = 98;
 
+// The hundredths of a whole.
 const HUNDREDTHS: u64 = 100;
 
 // The free surface of a slack tank.

@@ -2,6 +2,9 @@
 
 use super::observation::Observation;
 use crate::generate::Case;
+use crate::peer::condition::PRESSED_UP;
+use crate::peer::ranges::TANK;
+use std::cmp::Ordering;
 use std::collections::BTreeSet;
 
 const CALLS: [&str; 6] = ["report", "read", "write", "rows", "display", "condition"];
@@ -36,14 +39,18 @@ const REFUSALS: [&str; 15] = [
 ];
 const HEELS: [&str; 4] = ["unstable", "upright", "heeled", "beyond"];
 const VERDICTS: [&str; 2] = ["does not pass", "passes"];
-const SETTLING_CALLS: [usize; 2] = [0, 5];
+const CONDITION: usize = 5;
+const SETTLING_CALLS: [usize; 2] = [0, CONDITION];
+const FILLINGS: [&str; 5] = ["empty", "slack", "at 98 per cent", "above it", "full"];
 
-/// What came out of one case: 0 or the refusal's number, and how the vessel lies where that was found.
+/// What came out of one case: 0 or the refusal's number, how the vessel lies where that was found, and how many of the
+/// condition's tanks are filled how.
 pub struct Outcome {
     call: usize,
     refusal: usize,
     place: usize,
     lies: Option<(usize, usize)>,
+    fillings: [u64; FILLINGS.len()],
 }
 
 impl Outcome {
@@ -54,13 +61,17 @@ impl Outcome {
             Case::Write { .. } => 2,
             Case::Rows { .. } => 3,
             Case::Display { .. } => 4,
-            Case::Condition { .. } => 5,
+            Case::Condition { .. } => CONDITION,
         };
-        let mut outcome = Outcome { call, refusal: seen.number as usize, place: seen.place, lies: None };
+        let refusal = seen.number as usize;
+        let mut outcome = Outcome { call, refusal, place: seen.place, lies: None, fillings: Default::default() };
         if seen.number == 0 {
             match case {
                 Case::Report { .. } => outcome.take_sheet(&seen.room[..seen.values[0] as usize]),
-                Case::Condition { .. } => outcome.lies = Some((seen.values[6] as usize, seen.values[7] as usize)),
+                Case::Condition { tanks, .. } => {
+                    outcome.lies = Some((seen.values[6] as usize, seen.values[7] as usize));
+                    tanks.chunks(TANK.len()).for_each(|tank| outcome.fillings[filling(tank[0], tank[1])] += 1);
+                }
                 _ => outcome.place = 0,
             }
         }
@@ -81,12 +92,22 @@ impl Outcome {
     }
 }
 
+/// Which of the fillings a tank's contents are.
+fn filling(contents: i64, capacity: i64) -> usize {
+    match (100 * contents).cmp(&(PRESSED_UP * capacity)) {
+        Ordering::Less => usize::from(contents > 0),
+        Ordering::Equal => 2,
+        Ordering::Greater => 3 + usize::from(contents == capacity),
+    }
+}
+
 #[derive(Default)]
 pub struct Tally {
     refusals: [[u64; REFUSALS.len()]; CALLS.len()],
     heels: [[u64; HEELS.len()]; CALLS.len()],
     verdicts: [[u64; VERDICTS.len()]; CALLS.len()],
     sizes: BTreeSet<(usize, usize)>,
+    fillings: [u64; FILLINGS.len()],
 }
 
 impl Tally {
@@ -99,6 +120,9 @@ impl Tally {
             self.heels[outcome.call][heel] += 1;
             self.verdicts[outcome.call][verdict] += 1;
         }
+        for (all, here) in self.fillings.iter_mut().zip(outcome.fillings) {
+            *all += here;
+        }
     }
 
     pub fn print(&self) {
@@ -106,6 +130,15 @@ impl Tally {
         print_group(&REFUSALS, &self.refusals);
         print_group(&HEELS, &self.heels);
         print_group(&VERDICTS, &self.verdicts);
+        println!(
+            "tanks of conditions: {}",
+            FILLINGS
+                .iter()
+                .zip(self.fillings)
+                .map(|(name, count)| format!("{name} {count}"))
+                .collect::<Vec<_>>()
+                .join(", ")
+        );
         for (call, name) in CALLS.iter().enumerate() {
             let seen = ALLOWED[call].iter().filter(|&&refusal| self.refusals[call][refusal] > 0).count();
             println!("{name}: refusals allowed {:?}, {seen} of {} seen", ALLOWED[call], ALLOWED[call].len());
@@ -130,6 +163,7 @@ impl Tally {
             missing.extend(never(call, &HEELS, &self.heels[call]));
             missing.extend(never(call, &VERDICTS, &self.verdicts[call]));
         }
+        missing.extend(never(CONDITION, &FILLINGS, &self.fillings));
         missing.iter().for_each(|line| println!("NOT AS THE PAPER ALLOWS: {line}"));
         missing.is_empty()
     }

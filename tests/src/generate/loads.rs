@@ -3,6 +3,7 @@
 use super::random::Random;
 use crate::calls::Condition;
 use crate::peer;
+use crate::peer::condition::PRESSED_UP;
 use crate::peer::ranges::{ITEM, MOST_ITEMS, MOST_TANKS, ROW, TANK};
 
 type Tables = (Vec<i64>, Vec<i64>);
@@ -120,12 +121,13 @@ impl Shares {
     }
 }
 
-/// A tank with these contents: full, or slack by little or much, or empty.
+/// A tank with these contents: full, or but for a kilogram, or just pressed up or not, or slack by little or much, or empty.
 fn tank_with(random: &mut Random, contents: i64) -> [i64; 8] {
     let above = (contents + 1).min(FULLEST_TANK);
-    let capacity = match random.below(4) {
+    let capacity = match random.below(6) {
         0 => contents.max(1),
         1 => above,
+        2 | 3 => (100 * contents / PRESSED_UP + random.between(0, 1)).clamp(contents.max(1), FULLEST_TANK),
         _ => random.between(above, FULLEST_TANK),
     };
     let [_, _, x, _, _, length, breadth, density] = TANK.map(|range| random.between(range.least, range.greatest));

@@ -10,6 +10,8 @@ const LEAST_GM: i64 = 150;
 const HEEL_LIMIT: i64 = 1_763;
 const HEEL_UNIT: i64 = 10_000;
 const FREE_SURFACE_DIVISOR: u64 = 12_000_000_000;
+/// The filling, in per cent of capacity, from which no free surface is counted.
+pub const PRESSED_UP: i64 = 98;
 const FEWEST_ROWS: usize = 2;
 const SPACING: Range = Range { least: 10, greatest: 500 };
 
@@ -99,7 +101,7 @@ impl Load {
 /// The free surface of one tank, in kg·mm; only a slack tank has one.
 pub fn free_surface(tank: &[i64; 8]) -> u64 {
     let &[contents, capacity, _, _, _, length, breadth, density] = tank;
-    if contents <= 0 || contents >= capacity {
+    if contents <= 0 || 100 * contents >= PRESSED_UP * capacity {
         return 0;
     }
     ((length * breadth * breadth * breadth * density) as u64).div_ceil(FREE_SURFACE_DIVISOR)

@@ -3,7 +3,7 @@
 //! One function for each call of the library, with the same refusals and the same behaviour on what is lent. Nothing is
 //! allocated; what could be refused halfway is worked out in tables of the call's own and then copied.
 
-mod condition;
+pub mod condition;
 mod display;
 mod pen;
 pub mod ranges;

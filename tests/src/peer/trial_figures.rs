@@ -42,7 +42,9 @@ fn free_surfaces_of_one_tank() {
     assert_eq!(free_surface(&tank(5_000)), 1_333_334);
     assert_eq!(free_surface(&tank(8_000)), 0);
     assert_eq!(free_surface(&tank(0)), 0);
-    assert_eq!(free_surface(&tank(7_999)), 1_333_334);
+    assert_eq!(free_surface(&tank(7_999)), 0);
+    assert_eq!(free_surface(&tank(7_840)), 0);
+    assert_eq!(free_surface(&tank(7_839)), 1_333_334);
 }
 
 #[test]
