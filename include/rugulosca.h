@@ -65,7 +65,8 @@ uint64_t rugulosca_rows(const uint64_t *half_breadths, size_t half_breadths_leng
 uint64_t rugulosca_display(const uint64_t row[7], double figures[7], size_t *place);
 
 /* The loading condition. `wholes`: weight, draft, KM, LCG, vertical moment, free surface, how it lies, 1 for a pass and 0
- * otherwise. `signed_numbers`: GM, transverse moment. `tangent` is left only where the vessel is heeled. */
+ * otherwise. `signed_numbers`: GM, transverse moment. `tangent` is left only where the vessel is heeled. A tank has free
+ * surface where it is slack: above 0 and below 98 per cent of its capacity. */
 uint64_t rugulosca_condition(const int64_t *items, size_t items_length,
                              const int64_t *tanks, size_t tanks_length,
                              const uint64_t *rows, size_t rows_length,

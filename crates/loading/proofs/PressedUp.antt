@@ -53,7 +53,10 @@ parts-not-more t =
 pub surface-is-not-more : (l : Load) → freeSurface paperRules l ≤ freeSurface toTheLastKilogram l
 unfolding freeSurface
 surface-is-not-more l =
-    total-le (surfaceOf rectangle) (surfaceOf (toTheLastKilogram .surface)) (λ t. up-mono (up-of _ (rectangle .unit) (omega arith)) (up-of _ (rectangle .unit) (omega arith)) (parts-not-more t)) (l .tanks)
+    let some : 0 < rectangle .unit = omega arith in
+    total-le (surfaceOf rectangle) (surfaceOf (toTheLastKilogram .surface))
+    (λ t. up-mono (up-of (rectangleParts t) (rectangle .unit) some) (up-of (notFull t) (rectangle .unit) some) (parts-not-more t))
+    (l .tanks)
 
 gm-not-less : (t : Table) (l : Load) → 0 < weight l → gm toTheLastKilogram t l ≤ℤ gm paperRules t l
 gm-not-less t l laden =

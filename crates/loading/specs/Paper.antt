@@ -20,6 +20,7 @@ straightLine = record { given = λ p W. onLine p W .top / onLine p W .bottom; un
 abbrev pub pressedUp : ℕ
 pressedUp = 98
 
+-- of which so many are all of it
 abbrev pub hundredths : ℕ
 hundredths = 100
 
