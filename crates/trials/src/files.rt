@@ -11,6 +11,11 @@ use report::Report;
 // Files are numbered by three digits.
 const NUMBERS: u64 = 1_000;
 
+// The endings of a file and of the answer beside it.
+const TEXT: [u8; 3] = [b't', b'x', b't'];
+
+const ANSWER: [u8; 3] = [b'o', b'u', b't'];
+
 // One byte more than a file may have.
 const LONGEST_INPUT: usize = ranges::LONGEST_FILE + 1;
 
@@ -97,7 +102,7 @@ fn name_of(i: u64, ending: [u8; 3]) -> [u8; 7] {
 
 // Whether there is a file of this number.
 fn is_there(i: u64) -> bool {
-    let path = name_of(i, [b't', b'x', b't']);
+    let path = name_of(i, TEXT);
     let fd = os::open_read(&path);
     if fd < 0 {
         return false;
@@ -121,7 +126,7 @@ fn trial_at(i: u64) -> Trial {
 
 fn trial_of(i: u64) -> Trial {
     let mut text = [0u8; LONGEST_INPUT];
-    let count = read_data(i, [b't', b'x', b't'], &mut text);
+    let count = read_data(i, TEXT, &mut text);
     let differs = !is_answer(i, &text[..count]);
     let mut half_breadths = [0u64; ranges::HALF_BREADTH_ROOM];
     let mut items = [0i64; ranges::ITEM_ROOM];
@@ -157,7 +162,7 @@ fn trial_of(i: u64) -> Trial {
 // Whether the sheet of file i's text is the answer that stands beside it.
 fn is_answer(i: u64, text: &[u8]) -> bool {
     let mut answer = [0u8; report::LONGEST_SHEET];
-    let answer_count = read_data(i, [b'o', b'u', b't'], &mut answer);
+    let answer_count = read_data(i, ANSWER, &mut answer);
     let mut lines = [0u8; report::LONGEST_SHEET];
     match report::make_report(text, &mut lines) {
         Report::Refused(_) => false,
