@@ -1,4 +1,4 @@
-// The files of data/: every NNN.txt with the answer NNN.out beside it. Below 900 an independent calculation's, from 900 on document 01's own figures.
+// The files of data/: every NNN.txt with the answer NNN.out beside it. Below 900 an independent calculation's, from 900 on the papers' own figures.
 ghost use Prim.Native.Nat.{_+_, _≤_};
 ghost use lib.ListN.{length};
 ghost use Rattle.ranges.specs.Sizes.{roomForHalfBreadths};
