@@ -1,6 +1,7 @@
 -- Demand 3, from the laws of the rules alone.
 --     Demand3         its sentences, of loads over a table, by any rules for KM and free surface
 --     demand-3        for any sound rules and any usable table
+--     less-kg         of GMs over one KM, by the moments that they come from
 -- Of the conditions themselves: `Demand3`. Assumes nothing.
 use mathlib.Core.Path.{_≡_, sym, ap, subst, subst₂}
 use Prim.Native.Nat.{ℕ, _+_, _≤_, _<_}
@@ -37,7 +38,7 @@ pub record Demand3 (rules : Rules) (t : Table) : Type 0 where
   pub gm-is-close : (l : Load) → Within t (weight l) → LessThanThreeBelow (gm rules t l) (unroundedGM rules t l)
 
 -- less KG, more GM
-less-kg : (km a b W : ℕ) → 0 < W → b ≤ a → (pos km -ℤ pos (roundedUp a W)) ≤ℤ (pos km -ℤ pos (roundedUp b W))
+pub less-kg : (km a b W : ℕ) → 0 < W → b ≤ a → (pos km -ℤ pos (roundedUp a W)) ≤ℤ (pos km -ℤ pos (roundedUp b W))
 less-kg km a b W p h =
     difference-le km (roundedUp a W) km (roundedUp b W) (omega (arith, up-mono (up-of b W p) (up-of a W p) h))
 

@@ -1,5 +1,5 @@
--- The definitions give the paper's figures.
---     figures        all that the paper marks P
+-- The definitions give the figures of the papers.
+--     figures        all of the table: what the paper marks P, and a request's own
 -- The others are run by the crate trials. Assumes nothing.
 use mathlib.Core.Path.{_≡_, refl}
 use mathlib.Core.List.{map}

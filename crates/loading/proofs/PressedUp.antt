@@ -13,7 +13,6 @@ use borrow.Author.Tests.{lt-ltb, ltb-true}
 use lib.Dec.{T, ltb}
 use lib.Signed.{_≤ℤ_}
 use Rattle.arithmetic.specs.Choice.{if_then_else_}
-use Rattle.arithmetic.specs.Rounding.{roundedUp}
 use Rattle.arithmetic.proofs.Choice.{chosen, if-either}
 use Rattle.arithmetic.proofs.Rounding.{up-of, up-mono}
 use Rattle.loading.specs.Condition.{conditionAt}
@@ -24,9 +23,8 @@ use Rattle.loading.specs.Stability.{freeSurface, km, gm}
 use Rattle.loading.specs.Table.{Table, hull}
 use Rattle.loading.specs.declared.Condition.{Condition}
 use Rattle.loading.proofs.Answers.{Tried, answer-says, rows-are-usable}
-use Rattle.loading.proofs.Demand.{Passes}
+use Rattle.loading.proofs.Demand.{Passes, less-kg}
 use Rattle.loading.proofs.Demand3.{ConditionOver, aboard}
-use Rattle.loading.proofs.Difference.{difference-le}
 use Rattle.loading.proofs.Lowering.{pass-mono}
 use Rattle.loading.proofs.Totals.{total-le}
 
@@ -60,11 +58,8 @@ surface-is-not-more l =
 
 gm-not-less : (t : Table) (l : Load) → 0 < weight l → gm toTheLastKilogram t l ≤ℤ gm paperRules t l
 gm-not-less t l laden =
-    let W = weight l in
-    let before = verticalMoment l + freeSurface toTheLastKilogram l in
-    let after = verticalMoment l + freeSurface paperRules l in
-    let lower = up-mono (up-of after W laden) (up-of before W laden) (omega (arith, surface-is-not-more l)) in
-    difference-le (km paperRules t l) (roundedUp before W) (km paperRules t l) (roundedUp after W) (omega (arith, lower))
+    less-kg (km paperRules t l) (verticalMoment l + freeSurface toTheLastKilogram l) (verticalMoment l + freeSurface paperRules l) (weight l) laden
+    (omega (arith, surface-is-not-more l))
 
 module _ {rows : List ℕ} {c : Condition} (a : ConditionOver rows c) where
   says : Tried (a .items) (a .tanks) rows × (c ≡ conditionAt (hull rows) (aboard a))

@@ -6,13 +6,13 @@ use Rattle.trials.proofs.files.try_all.Statement.{statement}
 use Rattle.trials.proofs.files.try_all.Tie as tie
 
 abbrev Inv-loop : tie.InvT-loop
-Inv-loop differing₀ read₀ refused₀ changed₀ i₀ t7 t8 t9 differing read refused changed i = (differing ≤ i) × (read ≤ i) × (refused ≤ i) × (changed ≤ i) × (i ≤ 1000)
+Inv-loop tried₀ differing₀ changed₀ i₀ t6 t7 t8 tried differing changed i = (tried ≤ i) × (differing ≤ i) × (changed ≤ i) × (i ≤ 1000)
 
 abbrev μ-loop : tie.MeasureT-loop
-μ-loop differing₀ read₀ refused₀ changed₀ i₀ t7 t8 t9 differing read refused changed i = 1000 - i
+μ-loop tried₀ differing₀ changed₀ i₀ t6 t7 t8 tried differing changed i = 1000 - i
 
 loop-holds : tie.Need-loop-holds Inv-loop μ-loop
-loop-holds c = (omega arith, omega arith, omega arith, omega arith, omega arith)
+loop-holds c = (omega arith, omega arith, omega arith, omega arith)
 
 trial-at-requires : tie.Need-trial-at-requires Inv-loop μ-loop
 trial-at-requires c κs = search needs
@@ -26,9 +26,6 @@ counted-requires-2 c κs = omega arith
 counted-requires-3 : tie.Need-counted-requires-3 Inv-loop μ-loop
 counted-requires-3 c κs = omega arith
 
-counted-requires-4 : tie.Need-counted-requires-4 Inv-loop μ-loop
-counted-requires-4 c κs = omega arith
-
 print-failing-requires : tie.Need-print-failing-requires Inv-loop μ-loop
 print-failing-requires c κs = search needs
 
@@ -39,7 +36,7 @@ loop-less : tie.Need-loop-less Inv-loop μ-loop
 loop-less c = omega arith
 
 loop-again : tie.Need-loop-again Inv-loop μ-loop
-loop-again c = (omega arith, omega arith, omega arith, omega arith, omega arith)
+loop-again c = (omega arith, omega arith, omega arith, omega arith)
 
 slice-aggregate-number : tie.Need-slice-aggregate-number Inv-loop μ-loop
 slice-aggregate-number c = search needs
@@ -53,11 +50,11 @@ slice-aggregate-number-2 c = search needs
 number-requires-2 : tie.Need-number-requires-2 Inv-loop μ-loop
 number-requires-2 c κs = search needs
 
-slice-aggregate-bytes : tie.Need-slice-aggregate-bytes Inv-loop μ-loop
-slice-aggregate-bytes c = search needs
+slice-aggregate-number-3 : tie.Need-slice-aggregate-number-3 Inv-loop μ-loop
+slice-aggregate-number-3 c = search needs
 
-bytes-requires : tie.Need-bytes-requires Inv-loop μ-loop
-bytes-requires c κs = search needs
+number-requires-3 : tie.Need-number-requires-3 Inv-loop μ-loop
+number-requires-3 c κs = search needs
 
 returns : tie.Need-returns Inv-loop μ-loop
 returns c = search needs
@@ -76,7 +73,6 @@ try-all-spec =
     counted-requires
     counted-requires-2
     counted-requires-3
-    counted-requires-4
     print-failing-requires
     add-i
     loop-less
@@ -85,7 +81,7 @@ try-all-spec =
     number-requires
     slice-aggregate-number-2
     number-requires-2
-    slice-aggregate-bytes
-    bytes-requires
+    slice-aggregate-number-3
+    number-requires-3
     returns
     returns-2)
