@@ -2,6 +2,8 @@
 --     back, back-is                      what is read back is the number
 --     heard                              what a callee says of a number that it was handed
 --     is-negative-is                     the machine's test for below 0 is `isNegative`
+--     eqℤ-same, same-eqℤ                 `eqℤ` holds of one number and itself, and of no others
+--     same-bits                          two numbers are the same where their bits are
 --     cast-defined                       the cast of a number that is not below 0
 --     Turned, turn                       the steps from a negative number to its magnitude
 --     mag-le                             what 64 bits have to hold of a number is no more than its size
@@ -11,18 +13,19 @@
 --     less-under, less-over              a less b, by which of the two is smaller
 -- Assumes nothing.
 use Prim.Native.Nat.{ℕ, zero, suc, _+_, _-_, _^_, _<_, _≤_, min}
-use mathlib.Core.Bool.{true, false}
+use mathlib.Core.Bool.{Bool, true, false}
 use mathlib.Core.Path.{_≡_, refl, sym, ap, subst, _∙_}
 use native.Mathlib.Nat.{min-eq-left, min-le-right}
 use native.Mathlib.Omega.{arith}
-use borrow.Author.Tests.{lt-ltb, le-ltb}
-use lib.Dec.{T}
+use borrow.Author.Tests.{eqb-true, eqb-false, eq-eqb, lt-ltb, le-ltb}
+use lib.Dec.{T, eqb}
 use lib.IntN.{ℤ, pos, negsuc, natAbs, negℤ, sucℤ, predℤ, _+ℤ_, _-ℤ_, +ℤ-idl, +ℤ-one, -ℤ-one}
 use lib.Signed.{ltZ, nonNeg, mag}
 use mir.Facts.{toZ-ofZ, fits-natAbs}
 use mir.Syntax.{w64}
 use mir.Val.{Fits, SFits, toZ, ofZ}
-use Rattle.arithmetic.specs.Signed.{isNegative, nearest}
+use Rattle.arithmetic.proofs.Tests.{never}
+use Rattle.arithmetic.specs.Signed.{isNegative, eqℤ, nearest}
 
 abbrev pub back : ℤ → ℤ
 back v = toZ w64 (ofZ w64 v)
@@ -40,6 +43,30 @@ below-zero (negsuc n) = refl
 
 pub is-negative-is : {v : ℤ} → SFits w64 v → ltZ (back v) (pos 0) ≡ isNegative v
 is-negative-is {v} f = ap (λ z. ltZ z (pos 0)) (back-is f) ∙ below-zero v
+
+-- ---- the same number
+pub eqℤ-same : (a b : ℤ) → eqℤ a b ≡ true → a ≡ b
+unfolding eqℤ
+eqℤ-same (pos m) (pos n) e = ap pos (eqb-true m n e)
+eqℤ-same (pos m) (negsuc n) e = never e
+eqℤ-same (negsuc m) (pos n) e = never e
+eqℤ-same (negsuc m) (negsuc n) e = ap negsuc (eqb-true m n e)
+
+pub same-eqℤ : (a : ℤ) → eqℤ a a ≡ true
+unfolding eqℤ
+same-eqℤ (pos n) = eq-eqb n n refl
+same-eqℤ (negsuc n) = eq-eqb n n refl
+
+pub same-bits : (a b : ℤ) → SFits w64 a → SFits w64 b → eqb (ofZ w64 a) (ofZ w64 b) ≡ eqℤ a b
+same-bits a b h k = by-test (eqb (ofZ w64 a) (ofZ w64 b)) (eqℤ a b) refl refl
+  where
+    by-test : (s t : Bool) → eqb (ofZ w64 a) (ofZ w64 b) ≡ s → eqℤ a b ≡ t → eqb (ofZ w64 a) (ofZ w64 b) ≡ eqℤ a b
+    by-test true true e f = e ∙ sym f
+    by-test false false e f = e ∙ sym f
+    by-test true false e f =
+        let same : a ≡ b = sym (back-is h) ∙ ap (λ n. toZ w64 n) (eqb-true (ofZ w64 a) (ofZ w64 b) e) ∙ back-is k in
+        never (sym f ∙ ap (λ z. eqℤ a z) (sym same) ∙ same-eqℤ a)
+    by-test false true e f = absurd (eqb-false (ofZ w64 a) (ofZ w64 b) e (ap (λ z. ofZ w64 z) (eqℤ-same a b f)))
 
 -- a number that is not below 0 is whole, and its cast is defined
 whole : (v : ℤ) → isNegative v ≡ false → T (nonNeg v)

@@ -2,6 +2,7 @@
 --     drop-step, take-step         one element more, in the code's `i + 1`
 --     part-end, rest-end           a part from a place to the end is the rest; nothing lies after it
 --     store-next                   a list filled up to i, one store on
+--     stored-front, stored-behind    values stored one after another from a place on: the list up to their end, and up to the place
 --     part-filled                  a part lent from a on came back filled in front: the whole is filled so much further
 -- Assumes nothing.
 use mathlib.Core.Path.{_≡_, sym, ap, _∙_}
@@ -9,8 +10,8 @@ use mathlib.Core.List.{List, [], _∷_, _++_, append-assoc, append-nil}
 use Prim.Native.Nat.{ℕ, _+_, _-_, _<_, _≤_}
 use native.Mathlib.Numerals.{add-one}
 use native.Mathlib.Omega.{arith}
-use lib.ListN.{length, take, drop, getD, set, length-drop, drop-of-length-le}
-use lib.Seq.{take-suc, drop-cons, take-all, take-at, drop-at, drop-drop, set-at}
+use lib.ListN.{length, take, drop, getD, set, length-append, length-drop, drop-of-length-le}
+use lib.Seq.{take-suc, drop-cons, take-all, take-at, drop-at, drop-drop, set-at, sets, sets-eq, length-take-le}
 
 module _ {A : Type 0} where
   pub drop-step : (s : List A) (i : ℕ) (d : A) → i < length s → drop i s ≡ getD s i d ∷ drop (i + 1) s
@@ -32,6 +33,17 @@ module _ {A : Type 0} where
       ap (λ l. set (done ++ l) i v) (drop-step was i v h)
       ∙ set-at done (getD was i v) (drop (i + 1) was) v i e
       ∙ sym (append-assoc done (v ∷ []) (drop (i + 1) was))
+
+  pub stored-front : (vs l : List A) (i : ℕ) → i + length vs ≤ length l → take (i + length vs) (sets l i vs) ≡ take i l ++ vs
+  stored-front vs l i h =
+      let long : length (take i l ++ vs) ≡ i + length vs = length-append (take i l) vs ∙ ap (λ n. n + length vs) (length-take-le i l (omega arith)) in
+      ap (take (i + length vs)) (sets-eq vs l i h)
+      ∙ take-at (take i l ++ vs) (drop (i + length vs) l) (i + length vs) long
+
+  pub stored-behind : (vs l : List A) (i : ℕ) → i + length vs ≤ length l → take i (sets l i vs) ≡ take i l
+  stored-behind vs l i h =
+      ap (take i) (sets-eq vs l i h ∙ append-assoc (take i l) vs (drop (i + length vs) l))
+      ∙ take-at (take i l) (vs ++ drop (i + length vs) l) i (length-take-le i l (omega arith))
 
   -- `done` stands before place a, and the part from a on came back with `more` in front of what was there
   pub part-filled :

@@ -1,13 +1,14 @@
 -- What tests tell.
 --     both            both halves of a joint test
 --     never           no test is both false and true
+--     same-test       two tests that hold together are the same
 --     less-or-not     one number is below another, or it is not
 --     flag-le         a test, counted, is at most 1
 -- Assumes nothing.
 use Prim.Native.Nat.{ℕ, _≤_, _<_}
 use mathlib.Core.Bool.{Bool, true, false, _&&_}
 use mathlib.Core.Logic.{_⊎_, inl, inr}
-use mathlib.Core.Path.{_≡_, refl}
+use mathlib.Core.Path.{_≡_, refl, sym}
 use native.Mathlib.Omega.{arith}
 use borrow.Author.Tests.{ltb-true, ltb-false}
 use lib.Dec.{ltb, lit≤}
@@ -19,6 +20,11 @@ both false b e = (e, cc)
 
 pub never : {X : Type 0} → false ≡ true → X
 never e = let z : _≡_ {A = ℕ} 0 1 = cc in absurd (omega arith)
+
+pub same-test : (a b : Bool) → (a ≡ true → b ≡ true) → (b ≡ true → a ≡ true) → a ≡ b
+same-test true b f g = sym (f refl)
+same-test false true f g = g refl
+same-test false false f g = refl
 
 pub less-or-not : (n m : ℕ) → (n < m) ⊎ (m ≤ n)
 less-or-not n m = told (ltb n m) refl

@@ -4,7 +4,7 @@ ghost use mathlib.Core.Path.{_≡_};
 ghost use lib.IntN.{pos, negℤ, natAbs, _-ℤ_};
 ghost use lib.ListN.{getD};
 ghost use Rattle.arithmetic.specs.Rounding.{roundedUp};
-ghost use Rattle.arithmetic.specs.Signed.{isNegative, nearest};
+ghost use Rattle.arithmetic.specs.Signed.{isNegative, eqℤ, nearest};
 
 // The largest i64.
 const LARGEST: u64 = 9_223_372_036_854_775_807;
@@ -27,6 +27,13 @@ pub fn is_negative(v: i64) -> bool
     ensures { λ r. ⌜ r ≡ isNegative v ⌝ }
 {
     v < 0
+}
+
+// Whether two are the same number.
+pub fn is_same(a: i64, b: i64) -> bool
+    ensures { λ r. ⌜ r ≡ eqℤ a b ⌝ }
+{
+    a == b
 }
 
 // How far v is from 0.

@@ -1,5 +1,5 @@
 -- The laws of the loading condition, for every crate above it.
-pub mod Totals
+pub mod Adding
 pub mod Difference
 pub mod Places
 pub mod Drafts
@@ -20,7 +20,9 @@ pub mod Heels
 pub mod Moments
 pub mod Made
 pub mod Trying
+pub mod Itemised
 pub mod Order
+pub mod SameTotals
 pub mod Unique
 pub mod Answers
 pub mod Lowered

@@ -17,7 +17,7 @@ use Rattle.arithmetic.specs.Choice.{if_then_else_}
 use Rattle.loading.specs.Load.{Load, weight, longitudinalMoment, verticalMoment, transverseMoment, Lowered}
 use Rattle.loading.specs.Stability.{leastGM, heelLimit, tenThousandths, heelOf, stands, passes, tangent}
 use Rattle.loading.specs.declared.Heel.the-variants.{Unstable, Upright, Heeled, Beyond}
-use Rattle.loading.proofs.Totals.{total-same, totalℤ-same, total-mono}
+use Rattle.loading.proofs.Adding.{total-same, totalℤ-same, total-mono}
 
 pub lower-weight : (k l : Load) → Lowered k l → weight k ≡ weight l
 unfolding weight

@@ -24,7 +24,7 @@ use Rattle.loading.specs.Table.{Table}
 use Rattle.loading.specs.Total.{total, totalℤ}
 use Rattle.loading.specs.declared.Aboard.{Aboard}
 use Rattle.loading.proofs.Difference.{difference-times}
-use Rattle.loading.proofs.Totals.{total-none}
+use Rattle.loading.proofs.Adding.{total-none}
 
 net-with : (a b : Aboard) → transverseOf (a with b) ≡ transverseOf a +ℤ transverseOf b
 net-with a b =

@@ -43,6 +43,7 @@ use Rattle.loading.specs.declared.Condition.{Condition}
 use Rattle.loading.specs.declared.floating.Floating.{Floating}
 use Rattle.loading.specs.declared.tanks.Trial.{Trial}
 use Rattle.loading.specs.declared.tanks.Trial.the-variants as Trial
+use Rattle.loading.proofs.Itemised.{items-fit}
 use Rattle.loading.proofs.Moments.{weight-is, condition-is}
 use Rattle.loading.proofs.Tables.{last-row}
 
@@ -160,10 +161,9 @@ module _ (items tanks : List ℤ) (rows : List ℕ) where
 
           pub loadable : Loadable items tanks rows (length rows / rowWidth)
           loadable =
-              let i = records-are itemWidth mostItems (length items) (sized .items-whole) in
               let k = records-are tankWidth mostTanks (length tanks) (sized .tanks-whole) in
               record {
-                items-fit = record { whole = i .0; few = omega arith; in-range = all-inside };
+                items-fit = items-fit items (sized .items-whole) all-inside;
                 tanks-whole = record { whole = k .0; few = omega arith };
                 rows-usable = record { size = rows-whole; usable = usable };
               }

@@ -26,7 +26,7 @@ use Rattle.loading.proofs.Answers.{Tried, answer-says, rows-are-usable}
 use Rattle.loading.proofs.Demand.{Passes, less-kg}
 use Rattle.loading.proofs.Demand3.{ConditionOver, aboard}
 use Rattle.loading.proofs.Lowering.{pass-mono}
-use Rattle.loading.proofs.Totals.{total-le}
+use Rattle.loading.proofs.Adding.{total-le}
 
 -- "when 0 < contents < capacity"
 abbrev notFull : Tank → ℕ

@@ -14,7 +14,7 @@ use Rattle.loading.specs.Rules.{Rules, surfaceOf}
 use Rattle.loading.specs.Stability.{freeSurface, freeSurfaceParts}
 use Rattle.loading.specs.Total.{total}
 use Rattle.loading.proofs.Laws.{Sound}
-use Rattle.loading.proofs.Totals.{total-mono, total-le, total-plus, total-times}
+use Rattle.loading.proofs.Adding.{total-mono, total-le, total-plus, total-times}
 
 -- What is rounded up by less than one if there are kilograms, and by nothing if there are none,
 rounded-some : (unit surface parts kg : ℕ) → 0 < unit → RoundedUp parts unit surface → unit * surface + suc kg ≤ parts + unit * suc kg

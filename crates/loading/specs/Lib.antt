@@ -11,5 +11,6 @@ pub mod Paper
 pub mod Demand
 pub mod Figures
 pub mod Condition
+pub mod Items
 pub mod Promise
 pub mod Private

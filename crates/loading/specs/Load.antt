@@ -4,6 +4,7 @@ use mathlib.Core.List.{List}
 use Prim.Native.Nat.{ℕ, _+_, _*_, _≤_}
 use lib.IntN.{ℤ, pos, _+ℤ_, _*ℤ_}
 use Rattle.loading.specs.Total.{total, totalℤ, Each}
+use Rattle.loading.specs.declared.Totals.{Totals}
 
 pub record Item : Type 0 where
   pub kg : ℕ
@@ -37,6 +38,11 @@ verticalMoment l = total (λ i. i .kg * i .z) (l .items) + total (λ t. t .conte
 
 unfoldable pub transverseMoment : Load → ℤ
 transverseMoment l = totalℤ (λ i. pos (i .kg) *ℤ i .y) (l .items) +ℤ totalℤ (λ t. pos (t .contents) *ℤ t .y) (l .tanks)
+
+-- the weight and the three moments
+abbrev pub totalsOf : Load → Totals
+totalsOf l =
+    record { weight = weight l; longitudinal = longitudinalMoment l; vertical = verticalMoment l; transverse = transverseMoment l }
 
 -- i is j lowered, or j itself
 pub record LoweredItem (i j : Item) : Type 0 where

@@ -1,4 +1,4 @@
--- Sums over what is aboard, and lists that answer to one another place by place. Their laws: `Totals` of proofs/.
+-- Sums over what is aboard, and lists that answer to one another place by place. Their laws: `Adding` of proofs/.
 use mathlib.Core.List.{List, [], _∷_}
 use Prim.Native.Nat.{ℕ, _+_}
 use lib.IntN.{ℤ, pos, _+ℤ_}

@@ -3,8 +3,9 @@ ghost use mathlib.Core.Path.{_≡_};
 ghost use Prim.Native.Nat.{_<_};
 ghost use Rattle.loading.specs.Private.Aboard.{Bearable};
 ghost use Rattle.loading.specs.Private.Afloat.{RowsUsable};
-ghost use Rattle.loading.specs.Promise.{paper, MakesCondition};
-ghost use Rattle.loading.specs.Private.Steady.{Steady, Loadable, conditionWith, floatsWith, afterItems};
+ghost use Rattle.loading.specs.Items.{itemTotals};
+ghost use Rattle.loading.specs.Promise.{paper, paperTotals, MakesCondition};
+ghost use Rattle.loading.specs.Private.Steady.{Steady, Loadable, conditionWith, totalsWith, floatsWith, afterItems};
 ghost use Rattle.loading.specs.Table.{tableOf};
 use ranges::Refusal;
 use tanks::Trial;
@@ -77,6 +78,20 @@ impl Condition {
 // What a condition's call answers.
 pub enum Answer {
     Laden(Condition),
+    Refused(Refusal),
+}
+
+// The weight, kg, and the three moments, kg·mm.
+pub struct Totals {
+    pub weight: u64,
+    pub longitudinal: u64,
+    pub vertical: u64,
+    pub transverse: i64,
+}
+
+// What the call for the totals of items answers.
+pub enum Totalled {
+    Total(Totals),
     Refused(Refusal),
 }
 
@@ -162,4 +177,37 @@ pub fn condition_of(items: &[i64], tanks: &[i64], rows: &[u64]) -> Answer
         return refused(Refusal::OUT_OF_RANGE, Refusal::ITEMS_AT + bad_item);
     }
     loaded(items, tanks, rows, count)
+}
+
+// The totals of what is aboard.
+fn totals_of(all: Aboard) -> Totals
+    requires { ⌜ Bearable all ⌝ }
+    ensures { λ r. ⌜ r ≡ totalsWith all ⌝ }
+{
+    Totals {
+        weight: all.weight,
+        longitudinal: all.longitudinal,
+        vertical: all.vertical,
+        transverse: stability::less(all.starboard, all.port),
+    }
+}
+
+// The weight and moments of the items of a table, or the first refusal in the paper's order.
+pub fn item_totals(items: &[i64]) -> Totalled
+    ensures { λ r. ⌜ paperTotals r ≡ itemTotals (now (items .entry)) ⌝ }
+{
+    if !ranges::items_fit(items.len()) {
+        return Totalled::Refused(Refusal {
+            number: Refusal::WRONG_SIZE,
+            place: Refusal::ITEM_TABLE,
+        });
+    }
+    let bad_item = ranges::item_outside(items);
+    if bad_item < items.len() {
+        return Totalled::Refused(Refusal {
+            number: Refusal::OUT_OF_RANGE,
+            place: Refusal::ITEMS_AT + bad_item,
+        });
+    }
+    Totalled::Total(totals_of(items::items_aboard(items)))
 }

@@ -2,5 +2,6 @@
 pub mod Within
 pub mod Outside
 pub mod Facts
+pub mod Records
 pub mod Outcomes
 pub mod Numbered

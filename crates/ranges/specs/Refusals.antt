@@ -57,12 +57,28 @@ contentsAboveCapacity = 13
 abbrev pub roomTooShort : ℕ
 roomTooShort = 14
 
+-- slot number above 31
+abbrev pub noSuchSlot : ℕ
+noSuchSlot = 15
+
+-- slot taken
+abbrev pub slotTaken : ℕ
+slotTaken = 16
+
+-- slot empty
+abbrev pub slotEmpty : ℕ
+slotEmpty = 17
+
+-- a tally handed in with a filled slot out of range or totals not its items'
+abbrev pub tallyUnsound : ℕ
+tallyUnsound = 22
+
 -- the first and the last of them
 abbrev pub firstRefusal : ℕ
 firstRefusal = fileTooLong
 
 abbrev pub lastRefusal : ℕ
-lastRefusal = roomTooShort
+lastRefusal = tallyUnsound
 
 -- "Place of 4: .. 0..4 particulars, 5+i half-breadths, 1,000+i items, 2,000+i tanks": where the places of each table begin
 abbrev pub placeOfHalfBreadths : ℕ

@@ -45,6 +45,14 @@ impl Refusal {
 
     pub const ROOM_TOO_SHORT: u64 = 14;
 
+    pub const NO_SUCH_SLOT: u64 = 15;
+
+    pub const SLOT_TAKEN: u64 = 16;
+
+    pub const SLOT_EMPTY: u64 = 17;
+
+    pub const TALLY_UNSOUND: u64 = 22;
+
     // Where the places of each table's numbers begin; the particulars' begin at 0.
     pub const HALF_BREADTHS_AT: usize = PARTICULAR_COUNT;
 

@@ -20,6 +20,7 @@ use Rattle.loading.specs.Table.{Table, lastRow, draftOf}
 use Rattle.loading.specs.declared.Aboard.{Aboard}
 use Rattle.loading.specs.declared.Condition.{Condition}
 use Rattle.loading.specs.declared.Heel.{Heel}
+use Rattle.loading.specs.declared.Totals.{Totals}
 
 -- v, or 0 where v is below 0
 abbrev pub aboveZero : ℤ → ℕ
@@ -31,6 +32,9 @@ gmOf km moment weight = pos km -ℤ pos (roundedUp moment weight)
 
 abbrev pub transverseOf : Aboard → ℤ
 transverseOf a = pos (a .starboard) -ℤ pos (a .port)
+
+abbrev pub totalsWith : Aboard → Totals
+totalsWith a = record { weight = a .weight; longitudinal = a .longitudinal; vertical = a .vertical; transverse = transverseOf a }
 
 abbrev pub passesWith : ℤ → Heel → Bool
 passesWith gm heel = leZ (pos leastGM) gm && stands heel
