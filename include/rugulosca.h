@@ -1,6 +1,6 @@
 /* Rugulosca for C: the proved calculation behind a loading sheet.
  *
- * Every call answers 0 and leaves its values, or answers the number of its one refusal, 1 to 14, and leaves the refusal's
+ * Every call answers 0 and leaves its values, or answers the number of its one refusal, 1 to 22, and leaves the refusal's
  * place. What it does not leave stays as it was: tables, room and values on a refusal, the place on an answer.
  *
  * No call has a condition on its numbers, lengths or bytes. What C owes: each pointer is valid for its length (for a
@@ -24,6 +24,15 @@ enum {
     RUGULOSCA_ITEM_ROOM = 128,
     RUGULOSCA_TANK_ROOM = 128,
     RUGULOSCA_ROW_ROOM = 133
+};
+
+/* A tally of 32 slots, as its owner keeps it: five numbers a slot in `slots`, 0 where the slot is empty and any other
+ * number where it is filled, then kg, x, y and z of its item; in `totals` the weight, the longitudinal and the vertical
+ * moment of what is aboard; and its transverse moment. All zeros are the empty tally. */
+enum {
+    RUGULOSCA_SLOTS = 32,
+    RUGULOSCA_SLOT_WIDTH = 5,
+    RUGULOSCA_SLOT_ROOM = 160
 };
 
 /* How the vessel lies, in `wholes[6]` of a condition. */
@@ -72,6 +81,25 @@ uint64_t rugulosca_condition(const int64_t *items, size_t items_length,
                              const uint64_t *rows, size_t rows_length,
                              uint64_t wholes[8], int64_t signed_numbers[2],
                              double *tangent, size_t *place);
+
+/* A step of a tally: loads an item (kg, x, y, z) into an empty slot, discharges a slot, shifts a slot's item to a new
+ * place (x, y, z). An answer leaves the tally after it, a filled slot marked by 1, a freed one all zeros. A tally that is
+ * handed in with a filled slot out of range, or with totals that are not its items', is refused with 22. */
+uint64_t rugulosca_load(int64_t slots[160], uint64_t totals[3], int64_t *transverse,
+                        size_t slot, const int64_t item[4], size_t *place);
+
+uint64_t rugulosca_discharge(int64_t slots[160], uint64_t totals[3], int64_t *transverse,
+                             size_t slot, size_t *place);
+
+uint64_t rugulosca_shift(int64_t slots[160], uint64_t totals[3], int64_t *transverse,
+                         size_t slot, const int64_t to[3], size_t *place);
+
+/* The loading condition of the items aboard: 22, and then all that `rugulosca_condition` tries, whose values it leaves. */
+uint64_t rugulosca_condition_aboard(const int64_t slots[160], const uint64_t totals[3], int64_t transverse,
+                                    const int64_t *tanks, size_t tanks_length,
+                                    const uint64_t *rows, size_t rows_length,
+                                    uint64_t wholes[8], int64_t signed_numbers[2],
+                                    double *tangent, size_t *place);
 
 #ifdef __cplusplus
 }

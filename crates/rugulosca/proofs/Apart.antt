@@ -1,6 +1,7 @@
 -- The number that a call returns tells an answer from a refusal.
 --     apart     so it is of every outcome whose refusals have these numbers
 --     report-apart, read-apart, write-apart, rows-apart, display-apart, condition-apart     and so of each call, by what it promises
+--     load-apart, discharge-apart, shift-apart, aboard-apart                                the running tally's too
 -- Assumes nothing.
 use Prim.Native.Nat.{ℕ}
 use mathlib.Core.Path.{_≡_, ap, sym, _∙_}
@@ -22,8 +23,15 @@ use Rattle.hydrostatics.specs.declared.Row.{Row}
 use Rattle.hydrostatics.proofs.Numbered.{rows-numbered, display-numbered}
 use Rattle.loading.specs.Condition.{conditionOf}
 use Rattle.loading.proofs.Numbered.{condition-numbered}
+use Rattle.tally.specs.Condition.{conditionAboard}
+use Rattle.tally.specs.Steps.{loads, discharges, shifts}
+use Rattle.tally.specs.declared.Item.{Item}
+use Rattle.tally.specs.declared.Place.{Place}
+use Rattle.tally.specs.declared.Tally.{Tally}
+use Rattle.tally.proofs.Numbered as Tally
 use Rattle.report.specs.Promise.{reportOf}
 use Rattle.report.proofs.Numbered.{report-numbered}
+use Rattle.rugulosca.specs.Panel.{Kept, keptOf}
 use Rattle.rugulosca.specs.Told.{numberOf, Tells, Apart, summaryNumbers, figureNumbers, wholesOf}
 use Rattle.rugulosca.proofs.Telling.{told-apart}
 
@@ -60,3 +68,17 @@ module _ {place placeLeft number : ℕ} where
   pub condition-apart : (items tanks : List ℤ) (rows : List ℕ) {was left : List ℕ}
       → Tells wholesOf (conditionOf items tanks rows) was left place placeLeft number → Apart (conditionOf items tanks rows) number
   condition-apart items tanks rows t = apart (condition-numbered items tanks rows) t
+
+  module _ (t : Tally) {was left : Kept} where
+    pub load-apart : (slot : ℕ) (i : Item) → Tells keptOf (loads slot i t) was left place placeLeft number → Apart (loads slot i t) number
+    load-apart slot i told = apart (Tally.loads-numbered slot i t) told
+
+    pub discharge-apart : (slot : ℕ) → Tells keptOf (discharges slot t) was left place placeLeft number → Apart (discharges slot t) number
+    discharge-apart slot told = apart (Tally.discharges-numbered slot t) told
+
+    pub shift-apart : (slot : ℕ) (p : Place) → Tells keptOf (shifts slot p t) was left place placeLeft number → Apart (shifts slot p t) number
+    shift-apart slot p told = apart (Tally.shifts-numbered slot p t) told
+
+  pub aboard-apart : (t : Tally) (tanks : List ℤ) (rows : List ℕ) {was left : List ℕ}
+      → Tells wholesOf (conditionAboard t tanks rows) was left place placeLeft number → Apart (conditionAboard t tanks rows) number
+  aboard-apart t tanks rows told = apart (Tally.condition-numbered t tanks rows) told

@@ -1,3 +1,4 @@
 -- The laws behind the calls for other languages.
 pub mod Telling
 pub mod Apart
+pub mod Panels

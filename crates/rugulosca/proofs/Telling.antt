@@ -4,6 +4,7 @@
 --     told-apart    an outcome that is told by 0 is an answer
 --     tells-unique  one outcome is told in one way
 --     same-values, same-tangent    equal outcomes leave the same
+--     tells-as, condition-as       what is told of an outcome is told of any that is equal to it
 --     rows-at, written-at    the promises beneath, at particulars that are equal
 -- Assumes nothing.
 use Prim.Native.Nat.{ℕ}
@@ -20,7 +21,7 @@ use Rattle.hydrostatics.specs.declared.Rows.{Rows}
 use Rattle.loading.specs.declared.Condition.{Condition}
 use Rattle.offsets.specs.Writer.{Writes}
 use Rattle.offsets.specs.declared.Written.{Written}
-use Rattle.rugulosca.specs.Told.{numberOf, placeAfter, valueAfter, tangentAfter, Tells}
+use Rattle.rugulosca.specs.Told.{numberOf, placeAfter, valueAfter, tangentAfter, Tells, TellsCondition}
 
 pub told : {A B : Type 0} (value : A → B) {o : Outcome A} {a : A} {was : B} {place : ℕ} → answered a ≡ o → Tells value o was (value a) place place 0
 told value {was} {place} e =
@@ -43,6 +44,14 @@ same-values value was e = ap (λ o. valueAfter value o was) e
 
 pub same-tangent : {o q : Outcome Condition} (was : Float) → o ≡ q → tangentAfter o was ≡ tangentAfter q was
 same-tangent was e = ap (λ o. tangentAfter o was) e
+
+pub tells-as : {A B : Type 0} {value : A → B} {o q : Outcome A} {was left : B} {place placeLeft number : ℕ} → o ≡ q → Tells value o was left place placeLeft number → Tells value q was left place placeLeft number
+tells-as {value} {was} {left} {place} {placeLeft} {number} e t = subst (λ o. Tells value o was left place placeLeft number) e t
+
+pub condition-as : {o q : Outcome Condition} {wholes wholesLeft : List ℕ} {signed signedLeft : List ℤ} {tangent tangentLeft : Float} {place placeLeft number : ℕ}
+    → o ≡ q → TellsCondition o wholes wholesLeft signed signedLeft tangent tangentLeft place placeLeft number → TellsCondition q wholes wholesLeft signed signedLeft tangent tangentLeft place placeLeft number
+condition-as {wholes} {wholesLeft} {signed} {signedLeft} {tangent} {tangentLeft} {place} {placeLeft} {number} e t =
+    subst (λ o. TellsCondition o wholes wholesLeft signed signedLeft tangent tangentLeft place placeLeft number) e t
 
 pub rows-at : {p q : Particulars} {table rows after : List ℕ} {answer : Rows} → p ≡ q → MakesRows table p rows after answer → MakesRows table q rows after answer
 rows-at {table} {rows} {after} {answer} e makes = subst (λ p. MakesRows table p rows after answer) e makes

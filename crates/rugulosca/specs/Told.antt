@@ -72,3 +72,9 @@ tangentOf Beyond was = was
 abbrev pub tangentAfter : Outcome Condition → Float → Float
 tangentAfter (answered c) was = tangentOf (c .heel) was
 tangentAfter (refused number place) was = was
+
+-- all that a condition's call leaves
+pub record TellsCondition (outcome : Outcome Condition) (wholes wholesLeft : List ℕ) (signed signedLeft : List ℤ) (tangent tangentLeft : Float) (place placeLeft number : ℕ) : Type 0 where
+  pub tells : Tells wholesOf outcome wholes wholesLeft place placeLeft number
+  pub signed-is : signedLeft ≡ valueAfter signedOf outcome signed
+  pub tangent-is : tangentLeft ≡ tangentAfter outcome tangent

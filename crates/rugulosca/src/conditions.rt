@@ -1,16 +1,17 @@
 // The loading condition.
 ghost use mathlib.Core.Path.{_≡_};
 ghost use Rattle.loading.specs.Condition.{conditionOf};
-ghost use Rattle.rugulosca.specs.Told.{Tells, valueAfter, lie, tangentOf, wholesOf, signedOf, tangentAfter};
+ghost use Rattle.loading.specs.Promise.{paper};
+ghost use Rattle.rugulosca.specs.Told.{TellsCondition, lie, tangentOf, wholesOf};
 use crate::ANSWERED;
 use loading::Answer;
 use loading::Condition;
 use loading::Heel;
 
 // How many numbers of a condition have no sign, and how many have one.
-const WHOLE_COUNT: usize = 8;
+pub(crate) const WHOLE_COUNT: usize = 8;
 
-const SIGNED_COUNT: usize = 2;
+pub(crate) const SIGNED_COUNT: usize = 2;
 
 // How the vessel lies, by number.
 fn lie(heel: Heel) -> u64
@@ -53,22 +54,17 @@ fn wholes_of(c: Condition) -> [u64; WHOLE_COUNT]
     ]
 }
 
-// The condition of items and tanks over the rows of a hull.
-#[no_mangle]
-pub extern "C" fn rugulosca_condition(
-    items: &[i64],
-    tanks: &[i64],
-    rows: &[u64],
+// Leaves a condition, or the refusal's place.
+pub(crate) fn tell(
+    answer: Answer,
     wholes: &mut [u64; WHOLE_COUNT],
     signed_numbers: &mut [i64; SIGNED_COUNT],
     tangent: &mut f64,
     place: &mut usize,
 ) -> u64
-    ensures { λ r. ⌜ Tells wholesOf (conditionOf (now (items .entry)) (now (tanks .entry)) (now (rows .entry))) (now (wholes .entry)) (now (wholes .exit)) (now (place .entry)) (now (place .exit)) r ⌝ }
-    ensures { λ _. ⌜ now («signed_numbers» .exit) ≡ valueAfter signedOf (conditionOf (now (items .entry)) (now (tanks .entry)) (now (rows .entry))) (now («signed_numbers» .entry)) ⌝ }
-    ensures { λ _. ⌜ now (tangent .exit) ≡ tangentAfter (conditionOf (now (items .entry)) (now (tanks .entry)) (now (rows .entry))) (now (tangent .entry)) ⌝ }
+    ensures { λ r. ⌜ TellsCondition (paper answer) (now (wholes .entry)) (now (wholes .exit)) (now («signed_numbers» .entry)) (now («signed_numbers» .exit)) (now (tangent .entry)) (now (tangent .exit)) (now (place .entry)) (now (place .exit)) r ⌝ }
 {
-    match loading::condition_of(items, tanks, rows) {
+    match answer {
         Answer::Laden(c) => {
             let heel = c.heel;
             *wholes = wholes_of(c);
@@ -81,4 +77,21 @@ pub extern "C" fn rugulosca_condition(
             refusal.number
         }
     }
+}
+
+// The condition of items and tanks over the rows of a hull.
+#[no_mangle]
+pub extern "C" fn rugulosca_condition(
+    items: &[i64],
+    tanks: &[i64],
+    rows: &[u64],
+    wholes: &mut [u64; WHOLE_COUNT],
+    signed_numbers: &mut [i64; SIGNED_COUNT],
+    tangent: &mut f64,
+    place: &mut usize,
+) -> u64
+    ensures { λ r. ⌜ TellsCondition (conditionOf (now (items .entry)) (now (tanks .entry)) (now (rows .entry))) (now (wholes .entry)) (now (wholes .exit)) (now («signed_numbers» .entry)) (now («signed_numbers» .exit)) (now (tangent .entry)) (now (tangent .exit)) (now (place .entry)) (now (place .exit)) r ⌝ }
+{
+    let answer = loading::condition_of(items, tanks, rows);
+    tell(answer, wholes, signed_numbers, tangent, place)
 }

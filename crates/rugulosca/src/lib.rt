@@ -4,6 +4,7 @@ mod conditions;
 mod files;
 mod hulls;
 mod sheets;
+mod tallies;
 
 // What a call returns that is not refused.
 const ANSWERED: u64 = 0;

@@ -5,6 +5,7 @@
 --     condition-after       the condition of what is aboard is that of the list's items
 --     usable-at-once        a discharged slot holds zeros, and can be loaded again at once
 --     refused-unchanged     a refused step changes nothing
+--     stepped-on            the tally that a call hands back is the one that the history goes on with
 -- Assumes nothing.
 use mathlib.Core.Path.{_≡_, refl, sym, ap, _∙_}
 use mathlib.Core.Bool.{Bool, true, false, not}
@@ -42,6 +43,11 @@ use Rattle.tally.proofs.Slots.{none-aboard, figure-slot, SlotInRange, f
 pub refused-unchanged : {t : Tally} {o : Outcome Tally} {number place : ℕ} → o ≡ refused number place → stepped t o .tally ≡ t
 unfolding stepped
 refused-unchanged e = rw e
+
+pub stepped-on : (t : Tally) (o : Outcome Tally) → stepped t o .tally ≡ unlessRefused o t
+unfolding stepped
+stepped-on t (answered after) = refl
+stepped-on t (refused number place) = refl
 
 pub usable-at-once : (slot : ℕ) (i : Item) (t : Tally) {u : Tally} → length (t .slots) ≡ slotCount → discharges slot t ≡ answered u → outside i ≡ itemWidth → (slotAt u slot ≡ freed) × (loads slot i u ≡ answered (withSlot u slot (holding i)))
 unfolding discharges loads tallyOf

@@ -3,6 +3,8 @@
 --     discharges-unsound, discharges-nowhere, discharges-empty, discharges-done
 --     shifts-unsound, shifts-outside, shifts-nowhere, shifts-empty, shifts-done
 --     fitting-load, fitting-discharge, fitting-shift      what is aboard afterwards is in range
+--     paper-stepped                                       what is handed back tells the outcome
+--     step-unique                                         a lent tally's promise determines the answer and the tally
 --     done-as                                             a step that was done hands back the tally after it
 -- Assumes nothing.
 use mathlib.Core.Path.{_≡_, refl, sym, ap, _∙_}
@@ -16,10 +18,12 @@ use Rattle.ranges.specs.Outcome.{Outcome, answered, refused}
 use Rattle.ranges.specs.Refusals.{outOfRange, noSuchSlot, slotTaken, slotEmpty, tallyUnsound}
 use Rattle.ranges.specs.Sizes.{itemWidth}
 use Rattle.tally.specs.Private.Listing.{Fitting}
-use Rattle.tally.specs.Steps.{movedTo, withSlot, loads, discharges, shifts, stepped}
+use Rattle.tally.specs.Steps.{movedTo, withSlot, loads, discharges, shifts, stepped, paper}
 use Rattle.tally.specs.Tally.{slotCount, noItem, freed, holding, slotAt, outside, sound}
+use Rattle.tally.specs.declared.Answer.{Answer}
 use Rattle.tally.specs.declared.Item.{Item}
 use Rattle.tally.specs.declared.Place.{Place}
+use Rattle.tally.specs.declared.Stepped.{Stepped}
 use Rattle.tally.specs.declared.Tally.{Tally}
 use Rattle.tally.proofs.InRange.{in-range-moved}
 use Rattle.tally.proofs.Slots.{in-range-at, in-range-set, freed-in-range, sound-in-range}
@@ -115,3 +119,11 @@ module _ (slot : ℕ) (p : Place) (t : Tally) where
 pub done-as : (t : Tally) {after u : Tally} {o : Outcome Tally} → after ≡ u → o ≡ answered u → stepped after (answered after) ≡ stepped t o
 unfolding stepped
 done-as t {after} {u} e f = ap (λ v. stepped v (answered v)) e ∙ ap (λ o. stepped t o) (sym f)
+
+pub paper-stepped : (t : Tally) (o : Outcome Tally) → paper (stepped t o) ≡ o
+unfolding stepped
+paper-stepped t (answered after) = refl
+paper-stepped t (refused number place) = refl
+
+pub step-unique : {a b : Answer} {t u : Tally} {s : Stepped} → record { answer = a; tally = t } ≡ s → record { answer = b; tally = u } ≡ s → (a ≡ b) × (t ≡ u)
+step-unique e f = let same = e ∙ sym f in (ap (λ s. s .answer) same, ap (λ s. s .tally) same)
