@@ -1,6 +1,6 @@
 -- Demand 1, call by call: the promise's own outcome makes one answer that keeps it; that no other does is the promise's uniqueness, and that a refusal's number is the
 -- paper's its numbering.
---     sheet-answers, reader-answers, writer-answers, rows-answer, display-answers, condition-answers
+--     sheet-answers, reader-answers, writer-answers, rows-answer, display-answers, condition-answers, totals-answer, step-answers, aboard-answers
 -- Assumes nothing.
 use mathlib.Core.Path.{_≡_, refl, sym, subst, _∙_}
 use mathlib.Core.List.{List, map}
@@ -39,10 +39,23 @@ use Rattle.hydrostatics.specs.declared.Rows.the-variants as MadeOrNot
 use Rattle.hydrostatics.proofs.Numbered.{rows-numbered, display-numbered}
 use Rattle.hydrostatics.proofs.Unique.{makes-rows-unique, display-unique}
 use Rattle.loading.specs.Condition.{conditionOf}
+use Rattle.loading.specs.Items.{itemTotals}
 use Rattle.loading.specs.Promise as Loading
+use Rattle.loading.specs.declared.Answer.{Answer as Conditions}
 use Rattle.loading.specs.declared.Answer.the-variants as Answer
+use Rattle.loading.specs.declared.Totalled.{Totalled}
+use Rattle.loading.specs.declared.Totalled.the-variants as Totalled
+use Rattle.loading.proofs.Itemised.{totals-numbered, paper-totals-injective}
 use Rattle.loading.proofs.Numbered.{condition-numbered}
-use Rattle.loading.proofs.Unique.{makes-condition-unique}
+use Rattle.loading.proofs.Unique.{paper-injective, makes-condition-unique}
+use Rattle.tally.specs.Condition.{conditionAboard}
+use Rattle.tally.specs.History.{Step, load, discharge, shift, taken}
+use Rattle.tally.specs.Steps.{stepped, paper}
+use Rattle.tally.specs.declared.Stepped.{Stepped}
+use Rattle.tally.specs.declared.Tally.{Tally}
+use Rattle.tally.proofs.Histories.{refused-unchanged}
+use Rattle.tally.proofs.Numbered as Tally
+use Rattle.tally.proofs.Stepping.{paper-stepped}
 use Rattle.report.specs.Promise.{Reports, reportOf}
 use Rattle.report.specs.Promise as Report
 use Rattle.report.specs.Sheet.{sheetOf}
@@ -158,5 +171,44 @@ condition-answers items tanks rows =
       kept = kept;
       only = λ other k. makes-condition-unique k kept;
       numbered = numbered-as t (condition-numbered items tanks rows);
+      untouched = λ e. tt;
+    }
+
+-- ---- the running tally
+pub totals-answer : (items : List ℤ) → AnswersOrRefuses (λ (answer : Totalled). Loading.paperTotals answer ≡ itemTotals items) Loading.paperTotals (λ answer. Unit)
+totals-answer items =
+    let t = told Loading.paperTotals Totalled.Total Totalled.Refused (λ v. refl) (λ r. refl) (itemTotals items) in
+    record {
+      back = t .answer;
+      kept = t .is;
+      only = λ other k. paper-totals-injective other (t .answer) (k ∙ sym (t .is));
+      numbered = numbered-as t (totals-numbered items);
+      untouched = λ e. tt;
+    }
+
+step-numbered : (step : Step) (t : Tally) → Numbered (taken step t)
+step-numbered (load slot i) t = Tally.loads-numbered slot i t
+step-numbered (discharge slot) t = Tally.discharges-numbered slot t
+step-numbered (shift slot p) t = Tally.shifts-numbered slot p t
+
+pub step-answers : (step : Step) (t : Tally) → AnswersOrRefuses (λ (back : Stepped). back ≡ stepped t (taken step t)) paper (λ back. back .tally ≡ t)
+step-answers step t =
+    let is = paper-stepped t (taken step t) in
+    record {
+      back = stepped t (taken step t);
+      kept = refl;
+      only = λ other k. k;
+      numbered = subst Numbered (sym is) (step-numbered step t);
+      untouched = λ e. refused-unchanged (sym is ∙ e);
+    }
+
+pub aboard-answers : (t : Tally) (tanks : List ℤ) (rows : List ℕ) → AnswersOrRefuses (λ (answer : Conditions). Loading.paper answer ≡ conditionAboard t tanks rows) Loading.paper (λ answer. Unit)
+aboard-answers t tanks rows =
+    let a = told Loading.paper Answer.Laden Answer.Refused (λ v. refl) (λ r. refl) (conditionAboard t tanks rows) in
+    record {
+      back = a .answer;
+      kept = a .is;
+      only = λ other k. paper-injective other (a .answer) (k ∙ sym (a .is));
+      numbered = numbered-as a (Tally.condition-numbered t tanks rows);
       untouched = λ e. tt;
     }

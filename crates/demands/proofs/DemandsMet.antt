@@ -19,10 +19,13 @@ use Rattle.loading.proofs.Answers.{answer-says}
 use Rattle.loading.proofs.Demand3 as Third
 use Rattle.loading.proofs.Demand3.{ConditionOver}
 use Rattle.loading.proofs.Unique.{paper-injective}
+use Rattle.tally.specs.History.{taken}
+use Rattle.tally.proofs.Histories.{totals-after, answers-alike, always-sound, usable-at-once, condition-after, stepped-on}
 use Rattle.rugulosca.specs.Told.{placeAfter, valueAfter}
 use Rattle.rugulosca.proofs.Apart.{apart}
 use Rattle.demands.specs.Demands.{Conditioned, IsCondition, Demand1, Demand2, Demand3, Demands}
-use Rattle.demands.proofs.Answering.{sheet-answers, reader-answers, writer-answers, rows-answer, display-answers, condition-answers}
+use Rattle.demands.specs.RunningTally.{RunningTally}
+use Rattle.demands.proofs.Answering.{sheet-answers, reader-answers, writer-answers, rows-answer, display-answers, condition-answers, totals-answer, step-answers, aboard-answers}
 
 demand-1 : Demand1
 demand-1 = record {
@@ -32,6 +35,9 @@ demand-1 = record {
   of-the-rows = rows-answer;
   of-the-display = display-answers;
   of-the-condition = condition-answers;
+  of-a-step = step-answers;
+  of-the-totals = totals-answer;
+  of-the-condition-aboard = aboard-answers;
   told-by-a-number = λ {value = value} {was = was} {place = place} numbered tells. (
     apart numbered tells,
     λ n p e. (tells .place-is ∙ ap (λ o. placeAfter o place) e, tells .value-is ∙ ap (λ o. valueAfter value o was) e),
@@ -69,5 +75,15 @@ demand-3 = record {
   gm-is-close = λ k. Third.gm-is-close (over k);
 }
 
+running-tally : RunningTally
+running-tally = record {
+  steps-go-on = λ step t. stepped-on t (taken step t);
+  totals-are-the-lists = totals-after;
+  answers-are-the-lists = answers-alike;
+  never-unsound = always-sound;
+  freed-is-usable = usable-at-once;
+  condition-is-the-lists = condition-after;
+}
+
 pub demands-met : Demands
-demands-met = record { demand-1 = demand-1; demand-2 = demand-2; demand-3 = demand-3 }
+demands-met = record { demand-1 = demand-1; demand-2 = demand-2; demand-3 = demand-3; running-tally = running-tally }

@@ -1,4 +1,4 @@
--- The customer's three demands. Each sentence is a field, over any answers that keep the calls' promises; that all are met: `demands-met` of proofs/.
+-- The customer's three demands, and what a change request adds to them. Each sentence is a field, over any answers that keep the calls' promises; that all are met: `demands-met` of proofs/.
 -- Besides what is said here, each call returns on every input and is lent nothing on a condition: no function is accepted that may not end,
 -- and no public call has a `requires`.
 use mathlib.Core.Path.{_≡_}
@@ -35,6 +35,7 @@ use Rattle.loading.specs.Condition.{conditionAt}
 use Rattle.loading.specs.Demand.{LoweredTables, NoWorse}
 use Rattle.loading.specs.Fraction.{LessThanThreeBelow}
 use Rattle.loading.specs.Paper.{paperRules}
+use Rattle.loading.specs.Items.{itemTotals}
 use Rattle.loading.specs.Promise as Loading
 use Rattle.loading.specs.Promise.{MakesCondition}
 use Rattle.loading.specs.Records.{loadOf}
@@ -44,11 +45,19 @@ use Rattle.loading.specs.Table.{hull}
 use Rattle.loading.specs.declared.Answer.{Answer}
 use Rattle.loading.specs.declared.Answer.the-variants.{Laden}
 use Rattle.loading.specs.declared.Condition.{Condition}
+use Rattle.loading.specs.declared.Totalled.{Totalled}
+use Rattle.tally.specs.Condition.{conditionAboard}
+use Rattle.tally.specs.History.{Step, taken}
+use Rattle.tally.specs.Steps.{stepped}
+use Rattle.tally.specs.Steps as Steps
+use Rattle.tally.specs.declared.Stepped.{Stepped}
+use Rattle.tally.specs.declared.Tally.{Tally}
 use Rattle.report.specs.Promise as Report
 use Rattle.report.specs.Promise.{Reports}
 use Rattle.report.specs.declared.Report.{Report as Reported}
 use Rattle.rugulosca.specs.Told.{Tells, Apart}
 use Rattle.demands.specs.Answering.{AnswersOrRefuses}
+use Rattle.demands.specs.RunningTally.{RunningTally}
 
 -- an answer of the condition's call for these tables, and one that is a condition
 abbrev pub Conditioned : List ℤ → List ℤ → List ℕ → Answer → Type 0
@@ -68,11 +77,18 @@ pub record Demand1 : Type 1 where
       → AnswersOrRefuses (λ (back : Written × List ℕ). Writes p halfBreadths items tanks room (back .1) (back .0)) (λ back. Writer.paper (back .0)) (λ back. back .1 ≡ room)
   pub of-the-rows : (halfBreadths : List ℕ) (p : Particulars) (rows : List ℕ)
       → AnswersOrRefuses (λ (back : MadeOrNot × List ℕ). MakesRows halfBreadths p rows (back .1) (back .0)) (λ back. Rows.paper (back .0)) (λ back. back .1 ≡ rows)
-  -- these two are lent nothing for writing
+  -- a step of a tally hands the tally back; lent, it leaves that one
+  pub of-a-step : (step : Step) (t : Tally)
+      → AnswersOrRefuses (λ (back : Stepped). back ≡ stepped t (taken step t)) Steps.paper (λ back. back .tally ≡ t)
+  -- these are lent nothing for writing
   pub of-the-display : (row : Row)
       → AnswersOrRefuses (λ (answer : Displayed). Display.paper answer ≡ displayOf row) Display.paper (λ answer. Unit)
   pub of-the-condition : (items tanks : List ℤ) (rows : List ℕ)
       → AnswersOrRefuses (Conditioned items tanks rows) Loading.paper (λ answer. Unit)
+  pub of-the-totals : (items : List ℤ)
+      → AnswersOrRefuses (λ (answer : Totalled). Loading.paperTotals answer ≡ itemTotals items) Loading.paperTotals (λ answer. Unit)
+  pub of-the-condition-aboard : (t : Tally) (tanks : List ℤ) (rows : List ℕ)
+      → AnswersOrRefuses (λ (answer : Answer). Loading.paper answer ≡ conditionAboard t tanks rows) Loading.paper (λ answer. Unit)
   -- and as the calls for other languages tell it, by a number: 0, or the refusal's; with its place, and the values as they were
   pub told-by-a-number : {A B : Type 0} {value : A → B} {outcome : Outcome A} {was left : B} {place placeLeft number : ℕ} → Numbered outcome → Tells value outcome was left place placeLeft number
       → Apart outcome number × ((n p : ℕ) → outcome ≡ refused n p → (placeLeft ≡ p) × (left ≡ was))
@@ -115,3 +131,4 @@ pub record Demands : Type 1 where
   pub demand-1 : Demand1
   pub demand-2 : Demand2
   pub demand-3 : Demand3
+  pub running-tally : RunningTally
