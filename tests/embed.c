@@ -1,14 +1,60 @@
-/* The smallest program around the library: the sheet of the file on standard input, on standard output. */
+/* The smallest program around the library: the sheet of the file on standard input, on standard output. Before it, a
+ * tally on a barge of the program's own: what a crane panel does for a lift. */
+#include <assert.h>
 #include <stdio.h>
 
 #include "../include/rugulosca.h"
+
+/* A box of 10 m by 4 m: draft, displacement, LCB, KB, BM, KM and waterplane area at three drafts. */
+static const uint64_t rows[21] = {
+    1000, 40000, 5000, 500,  1333, 1833, 40000000,
+    1500, 60000, 5000, 750,  888,  1638, 40000000,
+    2000, 80000, 5000, 1000, 666,  1666, 40000000,
+};
+
+static const int64_t no_tanks[1] = {0};
+
+/* A tally as its owner keeps it. */
+struct tally {
+    int64_t slots[RUGULOSCA_SLOT_ROOM];
+    uint64_t totals[3];
+    int64_t transverse;
+};
+
+static int64_t gm_of(const struct tally *tally) {
+    uint64_t wholes[8];
+    int64_t signed_numbers[2];
+    double tangent;
+    size_t place;
+    uint64_t refusal = rugulosca_condition_aboard(tally->slots, tally->totals, tally->transverse, no_tanks, 0, rows, 21,
+                                                  wholes, signed_numbers, &tangent, &place);
+    assert(refusal == 0);
+    return signed_numbers[0];
+}
+
+static void lift(void) {
+    struct tally tally = {0};
+    const int64_t hull[4] = {60000, 5000, 0, 1000};
+    const int64_t crate[4] = {20000, 5000, 0, 3000};
+    size_t place = 0;
+    uint64_t refusal = rugulosca_load(tally.slots, tally.totals, &tally.transverse, 0, hull, &place);
+    assert(refusal == 0 && gm_of(&tally) == 638);
+    refusal = rugulosca_load(tally.slots, tally.totals, &tally.transverse, 31, crate, &place);
+    assert(refusal == 0 && tally.totals[0] == 80000 && gm_of(&tally) == 166);
+    refusal = rugulosca_load(tally.slots, tally.totals, &tally.transverse, 31, crate, &place);
+    assert(refusal == 16 && place == 31 && tally.totals[0] == 80000);
+    refusal = rugulosca_discharge(tally.slots, tally.totals, &tally.transverse, 31, &place);
+    assert(refusal == 0 && tally.totals[0] == 60000 && gm_of(&tally) == 638);
+}
 
 int main(void) {
     static uint8_t text[16385];
     uint8_t sheet[RUGULOSCA_LONGEST_SHEET];
     size_t count = 0;
     size_t place = 0;
-    size_t read = fread(text, 1, sizeof text, stdin);
+    size_t read;
+    lift();
+    read = fread(text, 1, sizeof text, stdin);
     /* room for the longest sheet is never too short, so this is never refused */
     rugulosca_report(text, read, sheet, sizeof sheet, &count, &place);
     return fwrite(sheet, 1, count, stdout) == count ? 0 : 1;

@@ -2,7 +2,7 @@
 
 #[cfg(linked)]
 use crate::calls;
-use crate::calls::{Condition, Refusal, Summary};
+use crate::calls::{Condition, Refusal, Summary, Tally};
 use crate::peer;
 
 type Report = fn(&[u8], &mut [u8]) -> Result<usize, Refusal>;
@@ -11,6 +11,10 @@ type Write = fn(&[u64; 5], &[u64], &[i64], &[i64], &mut [u8]) -> Result<usize, R
 type Rows = fn(&[u64], &[u64; 5], &mut [u64]) -> Result<usize, Refusal>;
 type Display = fn(&[u64; 7]) -> Result<[f64; 7], Refusal>;
 type Answer = fn(&[i64], &[i64], &[u64]) -> Result<Condition, Refusal>;
+type Load = fn(&mut Tally, usize, &[i64; 4]) -> Result<(), Refusal>;
+type Discharge = fn(&mut Tally, usize) -> Result<(), Refusal>;
+type Shift = fn(&mut Tally, usize, &[i64; 3]) -> Result<(), Refusal>;
+type AnswerAboard = fn(&Tally, &[i64], &[u64]) -> Result<Condition, Refusal>;
 
 /// One calculation's calls. They are called through pointers, so that neither is drawn into the loop that times it.
 pub struct Calculation {
@@ -21,6 +25,10 @@ pub struct Calculation {
     pub rows: Rows,
     pub display: Display,
     pub condition: Answer,
+    pub load: Load,
+    pub discharge: Discharge,
+    pub shift: Shift,
+    pub condition_aboard: AnswerAboard,
 }
 
 pub const PEER: Calculation = Calculation {
@@ -31,6 +39,10 @@ pub const PEER: Calculation = Calculation {
     rows: peer::rows,
     display: peer::display,
     condition: peer::condition,
+    load: peer::load,
+    discharge: peer::discharge,
+    shift: peer::shift,
+    condition_aboard: peer::condition_aboard,
 };
 
 #[cfg(linked)]
@@ -42,6 +54,10 @@ pub const LIBRARY: Calculation = Calculation {
     rows: calls::rows,
     display: calls::display,
     condition: calls::condition,
+    load: calls::load,
+    discharge: calls::discharge,
+    shift: calls::shift,
+    condition_aboard: calls::condition_aboard,
 };
 
 /// What is to be tested: the own calculation, and the library's where it is linked.

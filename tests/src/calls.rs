@@ -1,9 +1,9 @@
-//! Rugulosca for Rust: the six calls of `include/rugulosca.h` over slices, with a refusal as the error.
+//! Rugulosca for Rust: the ten calls of `include/rugulosca.h` over slices, with a refusal as the error.
 //!
 //! This file stands alone: a program that links `librugulosca.a` can take it as it is. Nothing is allocated or kept,
 //! and no call has a condition on its numbers, lengths or bytes.
 
-/// A call that was refused: the refusal's number, 1 to 14, and the place it names. Nothing lent was written.
+/// A call that was refused: the refusal's number, 1 to 22, and the place it names. Nothing lent was written.
 #[derive(Clone, Copy, Debug, PartialEq, Eq)]
 pub struct Refusal {
     pub number: u64,
@@ -40,6 +40,20 @@ pub struct Condition {
     pub transverse_moment: i64,
     pub heel: Heel,
     pub passes: bool,
+}
+
+/// A tally of 32 slots: five numbers a slot, 0 where it is empty and any other where it is filled, then kg, x, y and z of
+/// its item; and the totals of what is aboard: weight, longitudinal and vertical moment, and the transverse moment.
+#[derive(Clone, Copy, Debug, PartialEq, Eq)]
+pub struct Tally {
+    pub slots: [i64; 160],
+    pub totals: [u64; 3],
+    pub transverse: i64,
+}
+
+impl Tally {
+    /// Nothing aboard.
+    pub const EMPTY: Tally = Tally { slots: [0; 160], totals: [0; 3], transverse: 0 };
 }
 
 /// The header's declarations, for those who want the numbers as C sees them.
@@ -96,6 +110,46 @@ pub mod raw {
         pub fn rugulosca_condition(
             items: *const i64,
             items_length: usize,
+            tanks: *const i64,
+            tanks_length: usize,
+            rows: *const u64,
+            rows_length: usize,
+            wholes: *mut [u64; 8],
+            signed_numbers: *mut [i64; 2],
+            tangent: *mut f64,
+            place: *mut usize,
+        ) -> u64;
+
+        pub fn rugulosca_load(
+            slots: *mut [i64; 160],
+            totals: *mut [u64; 3],
+            transverse: *mut i64,
+            slot: usize,
+            item: *const [i64; 4],
+            place: *mut usize,
+        ) -> u64;
+
+        pub fn rugulosca_discharge(
+            slots: *mut [i64; 160],
+            totals: *mut [u64; 3],
+            transverse: *mut i64,
+            slot: usize,
+            place: *mut usize,
+        ) -> u64;
+
+        pub fn rugulosca_shift(
+            slots: *mut [i64; 160],
+            totals: *mut [u64; 3],
+            transverse: *mut i64,
+            slot: usize,
+            to: *const [i64; 3],
+            place: *mut usize,
+        ) -> u64;
+
+        pub fn rugulosca_condition_aboard(
+            slots: *const [i64; 160],
+            totals: *const [u64; 3],
+            transverse: i64,
             tanks: *const i64,
             tanks_length: usize,
             rows: *const u64,
@@ -202,6 +256,55 @@ pub fn condition(items: &[i64], tanks: &[i64], rows: &[u64]) -> Result<Condition
         raw::rugulosca_condition(
             items.as_ptr(),
             items.len(),
+            tanks.as_ptr(),
+            tanks.len(),
+            rows.as_ptr(),
+            rows.len(),
+            &mut wholes,
+            &mut signed_numbers,
+            &mut tangent,
+            &mut place,
+        )
+    };
+    answer(number, place, condition_of(wholes, signed_numbers, tangent))
+}
+
+/// Loads an item, kg and x, y, z, into an empty slot of the lent tally.
+pub fn load(tally: &mut Tally, slot: usize, item: &[i64; 4]) -> Result<(), Refusal> {
+    let Tally { slots, totals, transverse } = tally;
+    let mut place = 0;
+    // SAFETY: as in `report`.
+    let number = unsafe { raw::rugulosca_load(slots, totals, transverse, slot, item, &mut place) };
+    answer(number, place, ())
+}
+
+/// Discharges a slot of the lent tally.
+pub fn discharge(tally: &mut Tally, slot: usize) -> Result<(), Refusal> {
+    let Tally { slots, totals, transverse } = tally;
+    let mut place = 0;
+    // SAFETY: as in `report`.
+    let number = unsafe { raw::rugulosca_discharge(slots, totals, transverse, slot, &mut place) };
+    answer(number, place, ())
+}
+
+/// Shifts the item in a slot of the lent tally to x, y, z.
+pub fn shift(tally: &mut Tally, slot: usize, to: &[i64; 3]) -> Result<(), Refusal> {
+    let Tally { slots, totals, transverse } = tally;
+    let mut place = 0;
+    // SAFETY: as in `report`.
+    let number = unsafe { raw::rugulosca_shift(slots, totals, transverse, slot, to, &mut place) };
+    answer(number, place, ())
+}
+
+/// The loading condition of a tally's items and tanks over a table of rows.
+pub fn condition_aboard(tally: &Tally, tanks: &[i64], rows: &[u64]) -> Result<Condition, Refusal> {
+    let (mut wholes, mut signed_numbers, mut tangent, mut place) = ([0; 8], [0; 2], 0.0, 0);
+    // SAFETY: as in `report`.
+    let number = unsafe {
+        raw::rugulosca_condition_aboard(
+            &tally.slots,
+            &tally.totals,
+            tally.transverse,
             tanks.as_ptr(),
             tanks.len(),
             rows.as_ptr(),

@@ -1,15 +1,16 @@
 //! Compares the library with the own calculation on generated cases, and counts what came out of them.
 
+mod history;
 mod observation;
+mod outcomes;
 mod round_trip;
-mod tally;
 
 use crate::calculation::{LIBRARY, PEER};
-use crate::generate::Case;
+use crate::generate::{Call, Case};
 use observation::Observation;
+use outcomes::{Outcome, Outcomes};
 use std::hint::black_box;
 use std::time::Instant;
-use tally::{Outcome, Tally};
 
 /// One case in so many also goes through the library's safe wrappers.
 const WRAPPED_ONE_IN: u64 = 8;
@@ -17,21 +18,18 @@ const WRAPPED_ONE_IN: u64 = 8;
 /// Compares so many cases; answers whether none differed and every kind of outcome was seen.
 pub fn run(seed: u64, cases: u64) -> bool {
     let start = Instant::now();
-    let mut tally = Tally::default();
+    let mut outcomes = Outcomes::default();
     for number in 0..cases {
         let case = Case::generate(seed, number);
-        match examine(&case, number % WRAPPED_ONE_IN == 0) {
-            Ok(outcome) => tally.add(&outcome),
-            Err(difference) => {
-                println!("case {number} of seed {seed}: {difference}\n{case:?}");
-                return false;
-            }
+        if let Err(difference) = examine(&case, number % WRAPPED_ONE_IN == 0, &mut outcomes) {
+            println!("case {number} of seed {seed}: {difference}\n{case:?}");
+            return false;
         }
     }
-    tally.print();
+    outcomes.print();
     let seconds = start.elapsed().as_secs_f64();
     println!("seed {seed}, {seconds:.1} s, {:.0} cases/s", cases as f64 / seconds);
-    let complete = tally.print_missing();
+    let complete = outcomes.print_missing();
     println!("{cases} cases, 0 differences");
     complete
 }
@@ -39,33 +37,66 @@ pub fn run(seed: u64, cases: u64) -> bool {
 /// Prints one case with what both calculations made of it; answers whether they agree.
 pub fn replay(seed: u64, number: u64) -> bool {
     let case = Case::generate(seed, number);
-    let before = Observation::before(&case);
     println!("{case:?}");
-    println!("library: {:?}", before.clone().by_library(&case));
-    println!("peer: {:?}", before.by_calculation(&PEER, &case));
-    let answer = examine(&case, true);
+    match &case {
+        Case::Call(call) => show(call),
+        Case::History(steps) => {
+            for (call, list) in history::calls(steps) {
+                show(&call);
+                println!("list: {list:?}");
+            }
+        }
+    }
+    let answer = examine(&case, true, &mut Outcomes::default());
     if let Err(difference) = &answer {
         println!("{difference}");
     }
     answer.is_ok()
 }
 
-/// Runs a case through both calculations on equal copies of all that is lent.
-fn examine(case: &Case, wrapped: bool) -> Result<Outcome, String> {
-    let before = Observation::before(case);
-    let lent = case.clone();
+fn show(call: &Call) {
+    let before = Observation::before(call);
+    println!("library: {:?}", before.clone().by_library(call));
+    println!("peer: {:?}", before.by_calculation(&PEER, call));
+}
+
+/// Examines each call of a case; the steps of a history must also be the list's.
+fn examine(case: &Case, wrapped: bool, outcomes: &mut Outcomes) -> Result<(), String> {
+    match case {
+        Case::Call(call) => outcomes.add(&Outcome::of(call, &examine_call(call, wrapped)?)),
+        Case::History(steps) => {
+            for (i, (call, list)) in history::calls(steps).iter().enumerate() {
+                let library =
+                    examine_step(call, list, wrapped).map_err(|difference| format!("step {i}: {difference}"))?;
+                outcomes.add(&Outcome::of(call, &library));
+            }
+        }
+    }
+    Ok(())
+}
+
+fn examine_step(call: &Call, list: &Observation, wrapped: bool) -> Result<Observation, String> {
+    let library = examine_call(call, wrapped)?;
+    library.same_as(list)?;
+    Ok(library)
+}
+
+/// Runs a call through both calculations on equal copies of all that is lent; answers what the library made of it.
+fn examine_call(call: &Call, wrapped: bool) -> Result<Observation, String> {
+    let before = Observation::before(call);
+    let lent = call.clone();
     let library = before.clone().by_library(black_box(&lent));
-    let peer = before.clone().by_calculation(&PEER, case);
+    let peer = before.clone().by_calculation(&PEER, call);
     library.same_as(&peer)?;
     library.leaves_what_it_must(&before)?;
-    if lent != *case {
+    if lent != *call {
         return Err("what was lent for reading is changed".to_string());
     }
     if wrapped {
-        before.by_calculation(&LIBRARY, case).same_as(&peer)?;
+        before.by_calculation(&LIBRARY, call).same_as(&peer)?;
     }
     if library.number == 0 {
-        round_trip::examine(case, &library)?;
+        round_trip::examine(call, &library)?;
     }
-    Ok(Outcome::of(case, &library))
+    Ok(library)
 }

@@ -5,10 +5,14 @@ mod hulls;
 mod loads;
 mod random;
 mod row_tables;
+mod tallies;
 mod texts;
 
+use crate::calls::Tally;
 use crate::peer;
 use crate::peer::ranges::{HALF_BREADTH, ITEM, PARTICULARS, ROW, TANK};
+use crate::peer::tally::SLOTS;
+use crate::step::Step;
 use edges::{damage_number, damage_records, damage_size, edge};
 use hulls::Hull;
 use random::{mixed, Random};
@@ -19,15 +23,24 @@ const FILE_ROOM: usize = 16_384;
 const ROW_ROOM: usize = 133;
 const READ_ROOMS: [usize; 3] = [861, 128, 128];
 
+/// One call, or steps from an empty tally, one after another.
+#[derive(Debug)]
+pub enum Case {
+    Call(Call),
+    History(Vec<Step>),
+}
+
 /// One call with all that is lent to it; rooms by their lengths.
 #[derive(Clone, Debug, PartialEq)]
-pub enum Case {
+pub enum Call {
     Report { text: Vec<u8>, room: usize },
     Read { text: Vec<u8>, rooms: [usize; 3] },
     Write { numbers: FileNumbers, room: usize },
     Rows { particulars: [u64; 5], half_breadths: Vec<u64>, room: usize },
     Display { row: [u64; 7] },
     Condition { items: Vec<i64>, tanks: Vec<i64>, rows: Vec<u64> },
+    Step { tally: Box<Tally>, step: Step },
+    Aboard { tally: Box<Tally>, tanks: Vec<i64>, rows: Vec<u64> },
 }
 
 /// The numbers of an offset file.
@@ -42,14 +55,17 @@ pub struct FileNumbers {
 impl Case {
     pub fn generate(seed: u64, number: u64) -> Case {
         let random = &mut Random::for_case(seed, number);
-        match random.below(16) {
+        Case::Call(match random.below(20) {
             0..=4 => report(random),
             5..=7 => read(random),
             8..=9 => write(random),
             10..=11 => rows(random),
             12 => display(random),
-            _ => condition(random),
-        }
+            13..=15 => condition(random),
+            16..=17 => step(random),
+            18 => aboard(random),
+            _ => return Case::History(tallies::history(random)),
+        })
     }
 }
 
@@ -74,7 +90,7 @@ fn file_numbers(random: &mut Random) -> FileNumbers {
     FileNumbers { particulars, half_breadths, items, tanks }
 }
 
-fn report(random: &mut Random) -> Case {
+fn report(random: &mut Random) -> Call {
     let text = file_text(random);
     let room = match random.below(16) {
         0 | 1 => near(random, needed(peer::report(&text, &mut []))),
@@ -82,10 +98,10 @@ fn report(random: &mut Random) -> Case {
         3 => SHEET_ROOM + random.index(100),
         _ => SHEET_ROOM,
     };
-    Case::Report { text, room }
+    Call::Report { text, room }
 }
 
-fn read(random: &mut Random) -> Case {
+fn read(random: &mut Random) -> Call {
     let text = file_text(random);
     let mut rooms = READ_ROOMS;
     for room in &mut rooms {
@@ -96,7 +112,7 @@ fn read(random: &mut Random) -> Case {
             _ => *room,
         };
     }
-    Case::Read { text, rooms }
+    Call::Read { text, rooms }
 }
 
 fn file_text(random: &mut Random) -> Vec<u8> {
@@ -105,7 +121,7 @@ fn file_text(random: &mut Random) -> Vec<u8> {
     texts::text(random, &numbers, damages)
 }
 
-fn write(random: &mut Random) -> Case {
+fn write(random: &mut Random) -> Call {
     let mut numbers = file_numbers(random);
     for _ in 0..damages(random) {
         match random.below(8) {
@@ -126,7 +142,7 @@ fn write(random: &mut Random) -> Case {
         4 => 0,
         _ => FILE_ROOM,
     };
-    Case::Write { numbers, room }
+    Call::Write { numbers, room }
 }
 
 /// The length that a call without room asks for.
@@ -144,7 +160,7 @@ fn near(random: &mut Random, length: usize) -> usize {
     }
 }
 
-fn rows(random: &mut Random) -> Case {
+fn rows(random: &mut Random) -> Call {
     let Hull { mut particulars, mut half_breadths } = hulls::hull(random);
     let exact = (particulars[1] as usize - 1) * ROW.len();
     let mut room = random.pick(&[exact, exact, exact + 1, ROW_ROOM, ROW_ROOM + 9]);
@@ -156,21 +172,30 @@ fn rows(random: &mut Random) -> Case {
             _ => room = random.pick(&[0, exact - 1, exact - ROW.len(), room]),
         }
     }
-    Case::Rows { particulars, half_breadths, room }
+    Call::Rows { particulars, half_breadths, room }
 }
 
-fn display(random: &mut Random) -> Case {
+fn display(random: &mut Random) -> Call {
     let mut row = ROW.map(|range| random.between(range.least, range.greatest) as u64);
     for _ in 0..random.below(4) {
         let i = random.index(row.len());
         row[i] = edge(random, ROW[i], row[i] as i64) as u64;
     }
-    Case::Display { row }
+    Call::Display { row }
 }
 
-fn condition(random: &mut Random) -> Case {
+/// Items and tanks, mostly aimed by the rows they will lie on.
+fn load(random: &mut Random, rows: &[u64]) -> (Vec<i64>, Vec<i64>) {
+    if random.one_in(8) {
+        loads::any(random)
+    } else {
+        loads::aimed(random, rows)
+    }
+}
+
+fn condition(random: &mut Random) -> Call {
     let mut rows = row_tables::usable(random);
-    let (mut items, mut tanks) = if random.one_in(8) { loads::any(random) } else { loads::aimed(random, &rows) };
+    let (mut items, mut tanks) = load(random, &rows);
     for _ in 0..damages(random) {
         match random.below(10) {
             0 => damage_records(random, &mut items, &ITEM),
@@ -182,5 +207,33 @@ fn condition(random: &mut Random) -> Case {
             _ => row_tables::damage(random, &mut rows),
         }
     }
-    Case::Condition { items, tanks, rows }
+    Call::Condition { items, tanks, rows }
+}
+
+/// A step of a tally that is handed in, chosen before the tally is spoilt.
+fn step(random: &mut Random) -> Call {
+    let mut tally = tallies::sound(random);
+    let slot = random.index(SLOTS);
+    let step = tallies::step(random, &tally, slot);
+    for _ in 0..damages(random) {
+        tallies::damage(random, &mut tally);
+    }
+    Call::Step { tally: Box::new(tally), step }
+}
+
+fn aboard(random: &mut Random) -> Call {
+    let mut rows = row_tables::usable(random);
+    let (items, mut tanks) = load(random, &rows);
+    let mut tally = tallies::stowed(random, &items);
+    for _ in 0..damages(random) {
+        match random.below(8) {
+            0..=2 => tallies::damage(random, &mut tally),
+            3 => damage_records(random, &mut tanks, &TANK),
+            4 => loads::overfill(random, &mut tanks),
+            5 => damage_size(random, &mut tanks, TANK.len()),
+            6 => damage_size(random, &mut rows, ROW.len()),
+            _ => row_tables::damage(random, &mut rows),
+        }
+    }
+    Call::Aboard { tally: Box::new(tally), tanks, rows }
 }

@@ -15,6 +15,7 @@ mod measure;
 mod peer;
 #[cfg_attr(not(linked), allow(dead_code))]
 mod samples;
+mod step;
 mod vectors;
 
 use std::env;
@@ -22,7 +23,8 @@ use std::path::Path;
 use std::process::ExitCode;
 
 const USAGE: &str = "usage: outside compare SEED CASES | replay SEED CASE | vectors FOLDER | measure
-       outside repeat library|peer read|rows|condition|report|write smallest|sample|largest TIMES";
+       outside repeat library|peer CALL smallest|sample|largest TIMES
+       CALL: read|rows|condition|report|write|load|discharge|aboard";
 
 fn main() -> ExitCode {
     let arguments: Vec<String> = env::args().skip(1).collect();

@@ -1,19 +1,22 @@
 //! Times the library beside the own calculation, call by call, on three files.
 
 use crate::calculation::{Calculation, LIBRARY, PEER};
+use crate::calls::Tally;
+use crate::peer::tally::SLOT_NUMBERS;
 use crate::samples::{largest_file, SAMPLE_FILE, SMALLEST_FILE};
 use std::hint::black_box;
 use std::time::{Duration, Instant};
 
 const ROUNDS: usize = 40;
 const ROUND_TIME: Duration = Duration::from_millis(5);
-const CALLS: [&str; 5] = ["read", "rows", "condition", "report", "write"];
+const CALLS: [&str; 8] = ["read", "rows", "condition", "report", "write", "load", "discharge", "aboard"];
 const FILES: [&str; 3] = ["smallest", "sample", "largest"];
 
 /// Prints the times of every call on every file.
 pub fn run() {
     println!("ns per call: the median and the least of {ROUNDS} rounds of about {ROUND_TIME:?}, the two in turn.");
     println!("Tables and rooms are lent again as the call before left them; they are not cleared between calls.");
+    println!("A tally has the file's items, one a slot; load and discharge are of the last of them, put back by hand.");
     println!("{:10} {:9} {:>19} {:>19} {:>13}", "call", "file", "library", "peer", "library/peer");
     for file in FILES {
         let mut lent = Lent::of(file).expect("the file has a name");
@@ -88,7 +91,7 @@ fn calls_in_a_round(call: &str, lent: &mut Lent) -> u64 {
     times
 }
 
-/// A file with its numbers, and the tables and rooms that are lent.
+/// A file with its numbers, a tally of its items, and the tables and rooms that are lent.
 struct Lent {
     text: Vec<u8>,
     particulars: [u64; 5],
@@ -96,6 +99,7 @@ struct Lent {
     items: Vec<i64>,
     tanks: Vec<i64>,
     rows: Vec<u64>,
+    lift: Lift,
     room: Vec<u8>,
     tables: (Vec<u64>, Vec<i64>, Vec<i64>, Vec<u64>),
 }
@@ -117,12 +121,14 @@ impl Lent {
         let count = (PEER.rows)(&half_breadths, &summary.particulars, &mut tables.3).ok()?;
         let rows = tables.3[..7 * count].to_vec();
         (PEER.condition)(&items, &tanks, &rows).ok()?;
+        let lift = Lift::of(&items)?;
         let (text, room, particulars) = (text.into_bytes(), vec![0; 16_384], summary.particulars);
-        Some(Lent { text, particulars, half_breadths, items, tanks, rows, room, tables })
+        Some(Lent { text, particulars, half_breadths, items, tanks, rows, lift, room, tables })
     }
 
     fn call(&mut self, calculation: &Calculation, call: &str, times: u64) {
-        let Lent { text, particulars, half_breadths, items, tanks, rows, room, tables } = self;
+        let Lent { text, particulars, half_breadths, items, tanks, rows, lift, room, tables } = self;
+        let Lift { slot, item, before, after } = lift;
         let (read_half_breadths, read_items, read_tanks, made_rows) = tables;
         match call {
             "read" => repeatedly(times, || {
@@ -143,6 +149,25 @@ impl Lent {
                 black_box(&room);
                 answer.is_ok()
             }),
+            "load" => {
+                let mut tally = *before;
+                repeatedly(times, || {
+                    let answer = (calculation.load)(black_box(&mut tally), *slot, black_box(item));
+                    put_back(&mut tally, before, *slot);
+                    answer.is_ok()
+                })
+            }
+            "discharge" => {
+                let mut tally = *after;
+                repeatedly(times, || {
+                    let answer = (calculation.discharge)(black_box(&mut tally), *slot);
+                    put_back(&mut tally, after, *slot);
+                    answer.is_ok()
+                })
+            }
+            "aboard" => repeatedly(times, || {
+                black_box((calculation.condition_aboard)(black_box(after), black_box(tanks), black_box(rows))).is_ok()
+            }),
             _ => repeatedly(times, || {
                 let numbers = black_box((&particulars, &half_breadths, &items, &tanks));
                 let answer = (calculation.write)(numbers.0, numbers.1, numbers.2, numbers.3, room);
@@ -151,6 +176,35 @@ impl Lent {
             }),
         }
     }
+}
+
+/// The last of a file's items, with the tallies before and after it is loaded.
+struct Lift {
+    slot: usize,
+    item: [i64; 4],
+    before: Tally,
+    after: Tally,
+}
+
+impl Lift {
+    fn of(items: &[i64]) -> Option<Lift> {
+        let (item, others) = items.as_chunks().0.split_last()?;
+        let mut before = Tally::EMPTY;
+        for (slot, item) in others.iter().enumerate() {
+            (PEER.load)(&mut before, slot, item).ok()?;
+        }
+        let (slot, mut after) = (others.len(), before);
+        (PEER.load)(&mut after, slot, item).ok()?;
+        Some(Lift { slot, item: *item, before, after })
+    }
+}
+
+/// Undoes a step on a slot: the nine numbers it changed, as they were.
+fn put_back(tally: &mut Tally, before: &Tally, slot: usize) {
+    let numbers = slot * SLOT_NUMBERS..(slot + 1) * SLOT_NUMBERS;
+    tally.slots[numbers.clone()].copy_from_slice(&before.slots[numbers]);
+    tally.totals = before.totals;
+    tally.transverse = before.transverse;
 }
 
 /// Makes a call so many times; each must be answered.

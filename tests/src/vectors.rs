@@ -1,4 +1,7 @@
-//! Sheets worked out elsewhere: each `.txt` file's sheet must be its `.out` file, byte for byte.
+//! Answers worked out elsewhere, byte for byte: each `.txt` file's sheet must be its `.out` file, and so must the totals
+//! after each step of a `tally-` `.in` file.
+
+mod steps;
 
 use crate::calculation::{Calculation, CALCULATIONS};
 use std::fs;
@@ -7,41 +10,48 @@ use std::path::{Path, PathBuf};
 
 const LONGEST_SHEET: usize = 3_173;
 
-/// Runs every calculation over a folder of vectors; answers whether all sheets agree.
+/// Runs every calculation over a folder of vectors; answers whether all agree.
 pub fn run(folder: &Path) -> io::Result<bool> {
-    let inputs = inputs(folder)?;
-    let mut agree = !inputs.is_empty();
+    let sheets = inputs(folder, "", ".txt")?;
+    let tallies = inputs(folder, "tally-", ".in")?;
+    let mut agree = true;
     for calculation in CALCULATIONS {
-        let mut wrong = 0;
-        for input in &inputs {
-            if !sheet_agrees(calculation, input)? {
-                println!("{}: {} differs", calculation.name, input.display());
-                wrong += 1;
-            }
-        }
-        println!("{}: {} vectors, {wrong} differences", calculation.name, inputs.len());
-        agree &= wrong == 0;
+        agree &= all_agree(calculation.name, "sheets", &sheets, |input| sheet(calculation, input))?;
+        agree &= all_agree(calculation.name, "tallies", &tallies, |input| steps::by_calculation(calculation, input))?;
     }
+    agree &= all_agree("peer's list", "tallies", &tallies, steps::by_list)?;
     Ok(agree)
 }
 
-/// The folder's `.txt` files in order.
-fn inputs(folder: &Path) -> io::Result<Vec<PathBuf>> {
+/// The folder's files whose names start and end so, in order.
+fn inputs(folder: &Path, start: &str, end: &str) -> io::Result<Vec<PathBuf>> {
     let mut inputs = Vec::new();
     for entry in fs::read_dir(folder)? {
-        let path = entry?.path();
-        if path.extension().is_some_and(|extension| extension == "txt") {
-            inputs.push(path);
+        let entry = entry?;
+        if entry.file_name().to_str().is_some_and(|name| name.starts_with(start) && name.ends_with(end)) {
+            inputs.push(entry.path());
         }
     }
     inputs.sort();
     Ok(inputs)
 }
 
-fn sheet_agrees(calculation: &Calculation, input: &Path) -> io::Result<bool> {
-    let text = fs::read(input)?;
-    let sheet = fs::read(input.with_extension("out"))?;
+/// Holds what is made of each input to the answer beside it; where there is no input, nothing agrees.
+fn all_agree(name: &str, kind: &str, inputs: &[PathBuf], make: impl Fn(&[u8]) -> Option<Vec<u8>>) -> io::Result<bool> {
+    let mut wrong = 0;
+    for input in inputs {
+        let answer = fs::read(input.with_extension("out"))?;
+        if make(&fs::read(input)?) != Some(answer) {
+            println!("{name}: {} differs", input.display());
+            wrong += 1;
+        }
+    }
+    println!("{name}: {} {kind}, {wrong} differences", inputs.len());
+    Ok(wrong == 0 && !inputs.is_empty())
+}
+
+fn sheet(calculation: &Calculation, text: &[u8]) -> Option<Vec<u8>> {
     let mut room = [0; LONGEST_SHEET];
-    let length = (calculation.report)(&text, &mut room);
-    Ok(length.is_ok_and(|length| room[..length] == sheet))
+    let length = (calculation.report)(text, &mut room).ok()?;
+    Some(room[..length].to_vec())
 }

@@ -1,8 +1,10 @@
 //! All that can be seen of a call: its number, place and values, and every lent table and room afterwards.
 
 use crate::calculation::Calculation;
-use crate::calls::{raw, Condition, Heel, Refusal};
-use crate::generate::{pattern, Case, FileNumbers};
+use crate::calls::{raw, Condition, Heel, Refusal, Tally};
+use crate::generate::{pattern, Call, FileNumbers};
+use crate::peer::History;
+use crate::step::Step;
 
 /// The numbers a call answers with, floats by their bits: at most the eleven of a condition.
 type Values = [u64; 11];
@@ -22,16 +24,22 @@ pub struct Observation {
     pub wholes: Vec<u64>,
     pub items: Vec<i64>,
     pub tanks: Vec<i64>,
+    /// The tally of a step.
+    pub tally: Tally,
 }
 
 impl Observation {
-    /// What a case lends for writing, filled with a pattern that shows what stays.
-    pub fn before(case: &Case) -> Observation {
-        let (room, wholes, [items, tanks]) = match *case {
-            Case::Report { room, .. } | Case::Write { room, .. } => (room, 0, [0, 0]),
-            Case::Read { rooms: [half_breadths, items, tanks], .. } => (0, half_breadths, [items, tanks]),
-            Case::Rows { room, .. } => (0, room, [0, 0]),
-            Case::Display { .. } | Case::Condition { .. } => (0, 0, [0, 0]),
+    /// What a call is lent for writing, filled with a pattern that shows what stays.
+    pub fn before(call: &Call) -> Observation {
+        let (room, wholes, [items, tanks]) = match *call {
+            Call::Report { room, .. } | Call::Write { room, .. } => (room, 0, [0, 0]),
+            Call::Read { rooms: [half_breadths, items, tanks], .. } => (0, half_breadths, [items, tanks]),
+            Call::Rows { room, .. } => (0, room, [0, 0]),
+            _ => (0, 0, [0, 0]),
+        };
+        let tally = match call {
+            Call::Step { tally, .. } => **tally,
+            _ => Tally::EMPTY,
         };
         Observation {
             number: 0,
@@ -41,18 +49,21 @@ impl Observation {
             wholes: (0..wholes).map(pattern).collect(),
             items: (0..items).map(|i| pattern(i) as i64).collect(),
             tanks: (0..tanks).map(|i| pattern(i) as i64).collect(),
+            tally,
         }
     }
 
-    /// The case through the header's own calls.
-    pub fn by_library(mut self, case: &Case) -> Observation {
-        self.number = match case {
-            Case::Report { text, .. } => self.raw_report(text),
-            Case::Read { text, .. } => self.raw_read(text),
-            Case::Write { numbers, .. } => self.raw_write(numbers),
-            Case::Rows { particulars, half_breadths, .. } => self.raw_rows(particulars, half_breadths),
-            Case::Display { row } => self.raw_display(row),
-            Case::Condition { items, tanks, rows } => self.raw_condition(items, tanks, rows),
+    /// The call as the header declares it.
+    pub fn by_library(mut self, call: &Call) -> Observation {
+        self.number = match call {
+            Call::Report { text, .. } => self.raw_report(text),
+            Call::Read { text, .. } => self.raw_read(text),
+            Call::Write { numbers, .. } => self.raw_write(numbers),
+            Call::Rows { particulars, half_breadths, .. } => self.raw_rows(particulars, half_breadths),
+            Call::Display { row } => self.raw_display(row),
+            Call::Condition { items, tanks, rows } => self.raw_condition(items, tanks, rows),
+            Call::Step { step, .. } => self.raw_step(step),
+            Call::Aboard { tally, tanks, rows } => self.raw_aboard(tally, tanks, rows),
         };
         self
     }
@@ -132,9 +143,7 @@ impl Observation {
     }
 
     fn raw_condition(&mut self, items: &[i64], tanks: &[i64], rows: &[u64]) -> u64 {
-        let mut signed = [self.values[GM] as i64, self.values[TRANSVERSE_MOMENT] as i64];
-        let mut tangent = f64::from_bits(self.values[TANGENT]);
-        let number = unsafe {
+        self.settle(|wholes, signed, tangent, place| unsafe {
             raw::rugulosca_condition(
                 items.as_ptr(),
                 items.len(),
@@ -142,47 +151,99 @@ impl Observation {
                 tanks.len(),
                 rows.as_ptr(),
                 rows.len(),
-                self.values.first_chunk_mut::<8>().expect("eight of eleven"),
-                &mut signed,
-                &mut tangent,
-                &mut self.place,
+                wholes,
+                signed,
+                tangent,
+                place,
             )
-        };
+        })
+    }
+
+    fn raw_step(&mut self, step: &Step) -> u64 {
+        let Tally { slots, totals, transverse } = &mut self.tally;
+        let place = &mut self.place;
+        match step {
+            Step::Load { slot, item } => unsafe { raw::rugulosca_load(slots, totals, transverse, *slot, item, place) },
+            Step::Discharge { slot } => unsafe { raw::rugulosca_discharge(slots, totals, transverse, *slot, place) },
+            Step::Shift { slot, to } => unsafe { raw::rugulosca_shift(slots, totals, transverse, *slot, to, place) },
+        }
+    }
+
+    fn raw_aboard(&mut self, tally: &Tally, tanks: &[i64], rows: &[u64]) -> u64 {
+        self.settle(|wholes, signed, tangent, place| unsafe {
+            raw::rugulosca_condition_aboard(
+                &tally.slots,
+                &tally.totals,
+                tally.transverse,
+                tanks.as_ptr(),
+                tanks.len(),
+                rows.as_ptr(),
+                rows.len(),
+                wholes,
+                signed,
+                tangent,
+                place,
+            )
+        })
+    }
+
+    /// Lends a condition's values to a call, and takes them back in the header's order.
+    fn settle(&mut self, call: impl Fn(&mut [u64; 8], &mut [i64; 2], &mut f64, &mut usize) -> u64) -> u64 {
+        let mut signed = [self.values[GM] as i64, self.values[TRANSVERSE_MOMENT] as i64];
+        let mut tangent = f64::from_bits(self.values[TANGENT]);
+        let wholes = self.values.first_chunk_mut().expect("eight of eleven");
+        let number = call(wholes, &mut signed, &mut tangent, &mut self.place);
         self.values[GM..].copy_from_slice(&[signed[0] as u64, signed[1] as u64, tangent.to_bits()]);
         number
     }
 
-    /// The case through a calculation's calls over slices.
-    pub fn by_calculation(mut self, calculation: &Calculation, case: &Case) -> Observation {
-        match case {
-            Case::Report { text, .. } => {
+    /// The call through a calculation, over slices.
+    pub fn by_calculation(mut self, calculation: &Calculation, call: &Call) -> Observation {
+        match call {
+            Call::Report { text, .. } => {
                 let answer = (calculation.report)(text, &mut self.room);
                 self.note(answer, |length, values| values[0] = length as u64);
             }
-            Case::Read { text, .. } => {
+            Call::Read { text, .. } => {
                 let answer = (calculation.read)(text, &mut self.wholes, &mut self.items, &mut self.tanks);
                 self.note(answer, |summary, values| {
                     values[..5].copy_from_slice(&summary.particulars);
                     values[5..7].copy_from_slice(&[summary.items, summary.tanks]);
                 });
             }
-            Case::Write { numbers: FileNumbers { particulars, half_breadths, items, tanks }, .. } => {
+            Call::Write { numbers: FileNumbers { particulars, half_breadths, items, tanks }, .. } => {
                 let answer = (calculation.write)(particulars, half_breadths, items, tanks, &mut self.room);
                 self.note(answer, |length, values| values[0] = length as u64);
             }
-            Case::Rows { particulars, half_breadths, .. } => {
+            Call::Rows { particulars, half_breadths, .. } => {
                 let answer = (calculation.rows)(half_breadths, particulars, &mut self.wholes);
                 self.note(answer, |count, values| values[0] = count as u64);
             }
-            Case::Display { row } => {
+            Call::Display { row } => {
                 let answer = (calculation.display)(row);
                 self.note(answer, |figures, values| values[..7].copy_from_slice(&figures.map(f64::to_bits)));
             }
-            Case::Condition { items, tanks, rows } => {
+            Call::Condition { items, tanks, rows } => {
                 let answer = (calculation.condition)(items, tanks, rows);
                 self.note(answer, note_condition);
             }
+            Call::Step { step, .. } => {
+                let answer = step.by(calculation, &mut self.tally);
+                self.note(answer, |(), _| ());
+            }
+            Call::Aboard { tally, tanks, rows } => {
+                let answer = (calculation.condition_aboard)(tally, tanks, rows);
+                self.note(answer, note_condition);
+            }
         }
+        self
+    }
+
+    /// The next step of a history through the list of what is aboard.
+    pub fn by_list(mut self, history: &mut History, step: &Step) -> Observation {
+        let answer = history.take(step);
+        self.note(answer, |(), _| ());
+        self.tally = history.tally();
         self
     }
 
@@ -194,7 +255,7 @@ impl Observation {
         }
     }
 
-    /// Compares two observations of one case.
+    /// Compares two observations of one call.
     pub fn same_as(&self, peer: &Observation) -> Result<(), String> {
         let parts = [
             ("numbers", self.number == peer.number),
@@ -204,6 +265,7 @@ impl Observation {
             ("half-breadths or rows", self.wholes == peer.wholes),
             ("items", self.items == peer.items),
             ("tanks", self.tanks == peer.tanks),
+            ("tallies", self.tally == peer.tally),
         ];
         match parts.iter().find(|(_, same)| !same) {
             None => Ok(()),

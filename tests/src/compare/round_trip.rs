@@ -2,20 +2,20 @@
 
 use super::observation::Observation;
 use crate::calculation::{Calculation, CALCULATIONS};
-use crate::generate::{Case, FileNumbers};
+use crate::generate::{Call, FileNumbers};
 
 const FILE_ROOM: usize = 16_384;
 const HALF_BREADTH_ROOM: usize = 861;
 const RECORD_ROOM: usize = 128;
 
-/// Follows an answered case of reading or writing; other calls have no way back.
-pub fn examine(case: &Case, answered: &Observation) -> Result<(), String> {
-    match case {
-        Case::Write { numbers, .. } => {
+/// Follows an answered call of reading or writing; others have no way back.
+pub fn examine(call: &Call, answered: &Observation) -> Result<(), String> {
+    match call {
+        Call::Write { numbers, .. } => {
             let text = &answered.room[..answered.values[0] as usize];
             CALCULATIONS.iter().try_for_each(|reader| reads_back(reader, text, numbers))
         }
-        Case::Read { .. } => {
+        Call::Read { .. } => {
             let numbers = numbers_read(answered);
             CALCULATIONS.iter().try_for_each(|writer| writes_and_reads_back(writer, &numbers))
         }

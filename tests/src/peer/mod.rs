@@ -1,25 +1,32 @@
 //! The own calculation: the paper's rules once more, written by hand from the paper alone.
 //!
 //! One function for each call of the library, with the same refusals and the same behaviour on what is lent. Nothing is
-//! allocated; what could be refused halfway is worked out in tables of the call's own and then copied.
+//! allocated; what could be refused halfway is worked out in tables of the call's own and then copied. A history of a
+//! tally's steps is worked out a second time, as a list.
 
 pub mod condition;
 mod display;
+mod history;
 mod pen;
 pub mod ranges;
 mod reader;
 mod rows;
 mod sheet;
+pub mod tally;
 mod writer;
 
 #[cfg(test)]
 mod trial_figures;
+#[cfg(test)]
+mod trial_steps;
 
 pub use condition::condition;
 pub use display::display;
+pub use history::History;
 pub use reader::read;
 pub use rows::rows;
 pub use sheet::report;
+pub use tally::{condition_aboard, discharge, load, shift};
 pub use writer::write;
 
 use crate::calls::Refusal;
@@ -40,6 +47,10 @@ mod refusals {
     pub const WEIGHT_ABOVE: u64 = 12;
     pub const OVERFILLED: u64 = 13;
     pub const ROOM: u64 = 14;
+    pub const NO_SLOT: u64 = 15;
+    pub const SLOT_TAKEN: u64 = 16;
+    pub const SLOT_EMPTY: u64 = 17;
+    pub const TALLY: u64 = 22;
 }
 
 /// The places of refusal 7, one for each kind of lent table.

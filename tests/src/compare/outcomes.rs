@@ -1,0 +1,258 @@
+//! Counts of outcomes by call, and what the papers let come out that never did.
+
+use super::observation::Observation;
+use crate::calls::Tally;
+use crate::generate::Call;
+use crate::peer::condition::PRESSED_UP;
+use crate::peer::ranges::{ITEM, TANK};
+use crate::peer::tally::SLOT_NUMBERS;
+use crate::step::Step;
+use std::cmp::Ordering;
+use std::collections::BTreeSet;
+
+const CALLS: [&str; 10] =
+    ["report", "read", "write", "rows", "display", "condition", "load", "discharge", "shift", "aboard"];
+const REPORT: usize = 0;
+const CONDITION: usize = 5;
+const ABOARD: usize = 9;
+/// The refusals the papers let each call give; the report's own is 14, the others are its sheet's E lines.
+const ALLOWED: [&[usize]; 10] = [
+    &[1, 2, 3, 4, 5, 6, 8, 9, 11, 12, 13, 14],
+    &[1, 2, 3, 4, 5, 6, 7],
+    &[4, 7, 14],
+    &[4, 7, 8, 9],
+    &[4],
+    &[4, 7, 10, 11, 12, 13],
+    &[4, 15, 16, 22],
+    &[15, 17, 22],
+    &[4, 15, 17, 22],
+    &[4, 7, 10, 11, 12, 13, 22],
+];
+/// Places that must be seen: of every table whose size a call may refuse, of every number of a step, and of the first
+/// slot, the last and the first beyond.
+const PLACES: [&[(usize, usize)]; 10] = [
+    &[],
+    &[(7, 0), (7, 1), (7, 2)],
+    &[(7, 0), (7, 1), (7, 2)],
+    &[(7, 0), (7, 3)],
+    &[],
+    &[(7, 1), (7, 2), (7, 3)],
+    &[(4, 0), (4, 1), (4, 2), (4, 3), (15, 32), (16, 0), (16, 31), (22, 0)],
+    &[(15, 32), (17, 0), (17, 31), (22, 0)],
+    &[(4, 1), (4, 2), (4, 3), (15, 32), (17, 0), (17, 31), (22, 0)],
+    &[(7, 2), (7, 3), (22, 0)],
+];
+/// By number; those without a name are no call's.
+const REFUSALS: [&str; 23] = [
+    "answered",
+    "1 file too long",
+    "2 no number",
+    "3 count",
+    "4 range",
+    "5 ends too early",
+    "6 after the last section",
+    "7 table size",
+    "8 displacement",
+    "9 KM too high",
+    "10 row table",
+    "11 weight below",
+    "12 weight above",
+    "13 contents above capacity",
+    "14 room",
+    "15 no such slot",
+    "16 slot taken",
+    "17 slot empty",
+    "",
+    "",
+    "",
+    "",
+    "22 tally not sound",
+];
+const HEELS: [&str; 4] = ["unstable", "upright", "heeled", "beyond"];
+const VERDICTS: [&str; 2] = ["does not pass", "passes"];
+const SETTLING_CALLS: [usize; 3] = [REPORT, CONDITION, ABOARD];
+const FILLINGS: [&str; 5] = ["empty", "slack", "at 98 per cent", "above it", "full"];
+const STATES: [&str; 4] = ["empty", "full", "with another mark than 1", "with something in an empty slot"];
+
+/// What came out of one call: 0 or the refusal's number, how the vessel lies where that was found, how many of the
+/// condition's tanks are filled how, and in which states the tally was that a step was answered on.
+pub struct Outcome {
+    call: usize,
+    refusal: usize,
+    place: usize,
+    lies: Option<(usize, usize)>,
+    fillings: [u64; FILLINGS.len()],
+    states: [bool; STATES.len()],
+}
+
+impl Outcome {
+    pub fn of(call: &Call, seen: &Observation) -> Outcome {
+        let mut outcome = Outcome {
+            call: index(call),
+            refusal: seen.number as usize,
+            place: seen.place,
+            lies: None,
+            fillings: Default::default(),
+            states: Default::default(),
+        };
+        if seen.number == 0 {
+            match call {
+                Call::Report { .. } => outcome.take_sheet(&seen.room[..seen.values[0] as usize]),
+                Call::Condition { tanks, .. } => {
+                    outcome.take_condition(seen);
+                    tanks.chunks(TANK.len()).for_each(|tank| outcome.fillings[filling(tank[0], tank[1])] += 1);
+                }
+                Call::Aboard { .. } => outcome.take_condition(seen),
+                Call::Step { tally, .. } => outcome.states = states(tally),
+                _ => {}
+            }
+        }
+        outcome
+    }
+
+    fn take_condition(&mut self, seen: &Observation) {
+        self.lies = Some((seen.values[6] as usize, seen.values[7] as usize));
+    }
+
+    /// Takes a sheet's last line: a condition's word and verdict, or a refusal.
+    fn take_sheet(&mut self, sheet: &[u8]) {
+        let sheet = String::from_utf8_lossy(sheet);
+        let words: Vec<&str> = sheet.lines().last().unwrap_or_default().split(' ').collect();
+        let number = |word: &str| word.parse().expect("the sheet has a number there");
+        if words[0] == "E" {
+            (self.refusal, self.place) = (number(words[1]), number(words[2]));
+        } else {
+            let lies = HEELS.iter().position(|heel| *heel == words[9]).expect("the sheet has a heel's word");
+            self.lies = Some((lies, number(words[10])));
+        }
+    }
+}
+
+/// Where a call stands among the names.
+fn index(call: &Call) -> usize {
+    match call {
+        Call::Report { .. } => REPORT,
+        Call::Read { .. } => 1,
+        Call::Write { .. } => 2,
+        Call::Rows { .. } => 3,
+        Call::Display { .. } => 4,
+        Call::Condition { .. } => CONDITION,
+        Call::Step { step: Step::Load { .. }, .. } => 6,
+        Call::Step { step: Step::Discharge { .. }, .. } => 7,
+        Call::Step { step: Step::Shift { .. }, .. } => 8,
+        Call::Aboard { .. } => ABOARD,
+    }
+}
+
+/// Which of the states a tally is in.
+fn states(tally: &Tally) -> [bool; STATES.len()] {
+    let slots = tally.slots.as_chunks::<SLOT_NUMBERS>().0;
+    [
+        slots.iter().all(|slot| slot[0] == 0),
+        slots.iter().all(|slot| slot[0] != 0),
+        slots.iter().any(|slot| slot[0] != 0 && slot[0] != 1),
+        slots.iter().any(|slot| slot[0] == 0 && slot[1..] != [0; ITEM.len()]),
+    ]
+}
+
+/// Which of the fillings a tank's contents are.
+fn filling(contents: i64, capacity: i64) -> usize {
+    match (100 * contents).cmp(&(PRESSED_UP * capacity)) {
+        Ordering::Less => usize::from(contents > 0),
+        Ordering::Equal => 2,
+        Ordering::Greater => 3 + usize::from(contents == capacity),
+    }
+}
+
+#[derive(Default)]
+pub struct Outcomes {
+    refusals: [[u64; REFUSALS.len()]; CALLS.len()],
+    heels: [[u64; HEELS.len()]; CALLS.len()],
+    verdicts: [[u64; VERDICTS.len()]; CALLS.len()],
+    /// Those of the places to be seen that were.
+    places: BTreeSet<(usize, usize, usize)>,
+    fillings: [u64; FILLINGS.len()],
+    states: [u64; STATES.len()],
+}
+
+impl Outcomes {
+    pub fn add(&mut self, outcome: &Outcome) {
+        let Outcome { call, refusal, place, .. } = *outcome;
+        self.refusals[call][refusal] += 1;
+        if PLACES[call].contains(&(refusal, place)) {
+            self.places.insert((call, refusal, place));
+        }
+        if let Some((heel, verdict)) = outcome.lies {
+            self.heels[call][heel] += 1;
+            self.verdicts[call][verdict] += 1;
+        }
+        for (all, here) in self.fillings.iter_mut().zip(outcome.fillings) {
+            *all += here;
+        }
+        for (all, here) in self.states.iter_mut().zip(outcome.states) {
+            *all += u64::from(here);
+        }
+    }
+
+    pub fn print(&self) {
+        print_line("", &CALLS.map(str::to_string));
+        print_group(&REFUSALS, &self.refusals);
+        print_group(&HEELS, &self.heels);
+        print_group(&VERDICTS, &self.verdicts);
+        println!("tanks of conditions: {}", listed(&FILLINGS, &self.fillings));
+        println!("tallies of answered steps: {}", listed(&STATES, &self.states));
+        for (call, name) in CALLS.iter().enumerate() {
+            let seen = ALLOWED[call].iter().filter(|&&refusal| self.refusals[call][refusal] > 0).count();
+            println!("{name}: refusals allowed {:?}, {seen} of {} seen", ALLOWED[call], ALLOWED[call].len());
+        }
+    }
+
+    /// Names what was never seen, or never should be; answers whether there is no such thing.
+    pub fn print_missing(&self) -> bool {
+        let mut missing = Vec::new();
+        for (call, name) in CALLS.iter().enumerate() {
+            for (refusal, &count) in self.refusals[call].iter().enumerate() {
+                let allowed = refusal == 0 || ALLOWED[call].contains(&refusal);
+                if allowed != (count > 0) {
+                    missing.push(format!("{name}: {refusal} {count} times"));
+                }
+            }
+            for &(refusal, place) in PLACES[call].iter() {
+                if !self.places.contains(&(call, refusal, place)) {
+                    missing.push(format!("{name}: never {refusal} at {place}"));
+                }
+            }
+        }
+        for call in SETTLING_CALLS {
+            missing.extend(never(CALLS[call], &HEELS, &self.heels[call]));
+            missing.extend(never(CALLS[call], &VERDICTS, &self.verdicts[call]));
+        }
+        missing.extend(never("tank", &FILLINGS, &self.fillings));
+        missing.extend(never("tally", &STATES, &self.states));
+        missing.iter().for_each(|line| println!("NOT AS THE PAPER ALLOWS: {line}"));
+        missing.is_empty()
+    }
+}
+
+fn never<'a>(whose: &'a str, names: &'a [&str], counts: &'a [u64]) -> impl Iterator<Item = String> + 'a {
+    let unseen = names.iter().zip(counts).filter(|(_, &count)| count == 0);
+    unseen.map(move |(name, _)| format!("{whose}: never {name}"))
+}
+
+/// Names with their counts, in a line.
+fn listed(names: &[&str], counts: &[u64]) -> String {
+    let parts: Vec<String> = names.iter().zip(counts).map(|(name, count)| format!("{name} {count}")).collect();
+    parts.join(", ")
+}
+
+fn print_group<const N: usize>(names: &[&str; N], counts: &[[u64; N]; CALLS.len()]) {
+    for (i, name) in names.iter().enumerate().filter(|(_, name)| !name.is_empty()) {
+        print_line(name, &counts.map(|counts| counts[i].to_string()));
+    }
+}
+
+fn print_line(name: &str, cells: &[String]) {
+    print!("{name:28}");
+    cells.iter().for_each(|cell| print!("{cell:>11}"));
+    println!();
+}
