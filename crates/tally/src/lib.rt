@@ -4,6 +4,7 @@ ghost use mathlib.Core.Path.{_≡_};
 ghost use lib.IntN.{pos};
 ghost use Rattle.loading.specs.Promise.{paper};
 ghost use Rattle.tally.specs.Condition.{conditionAboard};
+ghost use Rattle.tally.specs.Private.Trying.{Tried};
 ghost use Rattle.tally.specs.Steps.{movedTo, stepped, loads, discharges, shifts};
 ghost use Rattle.tally.specs.Tally.{noItem, empty, outside};
 ghost use Rattle.ranges.specs.Outcome.{answered, refused};
@@ -93,12 +94,44 @@ fn done(tally: Tally) -> Stepped
 }
 
 // A refused step changes nothing.
-fn refused(tally: Tally, number: u64, place: usize) -> Stepped
-    ensures { λ r. ⌜ r ≡ stepped tally (refused number place) ⌝ }
+fn refused(tally: Tally, refusal: Refusal) -> Stepped
+    ensures { λ r. ⌜ r ≡ stepped tally (refused (refusal .number) (refusal .place)) ⌝ }
 {
     Stepped {
-        answer: Answer::Refused(Refusal { number, place }),
+        answer: Answer::Refused(refusal),
         tally,
+    }
+}
+
+// The number of no refusal.
+const PASSED: u64 = 0;
+
+// The tests that a step begins with, in the paper's order: the first refusal, or one that is none.
+fn tried(tally: Tally, item: Item, slot: usize) -> Refusal
+    ensures { λ r. ⌜ Tried tally item slot r ⌝ }
+{
+    if !listing::is_sound(tally) {
+        return Refusal {
+            number: Refusal::TALLY_UNSOUND,
+            place: 0,
+        };
+    }
+    let outside = outside_of(item);
+    if outside < ranges::ITEM_WIDTH {
+        return Refusal {
+            number: Refusal::OUT_OF_RANGE,
+            place: outside,
+        };
+    }
+    if SLOTS <= slot {
+        return Refusal {
+            number: Refusal::NO_SUCH_SLOT,
+            place: slot,
+        };
+    }
+    Refusal {
+        number: PASSED,
+        place: 0,
     }
 }
 
@@ -125,68 +158,69 @@ pub fn empty() -> Tally
 pub fn loaded(tally: Tally, slot: usize, item: Item) -> Stepped
     ensures { λ r. ⌜ r ≡ stepped tally (loads slot item tally) ⌝ }
 {
-    if !listing::is_sound(tally) {
-        return refused(tally, Refusal::TALLY_UNSOUND, 0);
-    }
-    let outside = outside_of(item);
-    if outside < ranges::ITEM_WIDTH {
-        return refused(tally, Refusal::OUT_OF_RANGE, outside);
-    }
-    if SLOTS <= slot {
-        return refused(tally, Refusal::NO_SUCH_SLOT, slot);
+    let refusal = tried(tally, item, slot);
+    if refusal.number != PASSED {
+        return refused(tally, refusal);
     }
     let slots = tally.slots;
     let was = slots[slot];
     if was.filled {
-        return refused(tally, Refusal::SLOT_TAKEN, slot);
+        return refused(
+            tally,
+            Refusal {
+                number: Refusal::SLOT_TAKEN,
+                place: slot,
+            },
+        );
     }
     done(listing::with_slot(tally, slot, Slot { filled: true, item }))
 }
 
-// Discharges a slot, which holds zeros then.
+// Discharges a slot, which holds zeros then: the order has no item, and zeros are in range.
 pub fn discharged(tally: Tally, slot: usize) -> Stepped
     ensures { λ r. ⌜ r ≡ stepped tally (discharges slot tally) ⌝ }
 {
-    if !listing::is_sound(tally) {
-        return refused(tally, Refusal::TALLY_UNSOUND, 0);
-    }
-    if SLOTS <= slot {
-        return refused(tally, Refusal::NO_SUCH_SLOT, slot);
+    let item = no_item();
+    let refusal = tried(tally, item, slot);
+    if refusal.number != PASSED {
+        return refused(tally, refusal);
     }
     let slots = tally.slots;
     let was = slots[slot];
     if !was.filled {
-        return refused(tally, Refusal::SLOT_EMPTY, slot);
+        return refused(
+            tally,
+            Refusal {
+                number: Refusal::SLOT_EMPTY,
+                place: slot,
+            },
+        );
     }
-    let item = no_item();
-    done(listing::with_slot(
-        tally,
-        slot,
-        Slot {
-            filled: false,
-            item,
-        },
-    ))
+    let freed = Slot {
+        filled: false,
+        item,
+    };
+    done(listing::with_slot(tally, slot, freed))
 }
 
 // Shifts a slot's item to a new place.
 pub fn shifted(tally: Tally, slot: usize, place: Place) -> Stepped
     ensures { λ r. ⌜ r ≡ stepped tally (shifts slot place tally) ⌝ }
 {
-    if !listing::is_sound(tally) {
-        return refused(tally, Refusal::TALLY_UNSOUND, 0);
-    }
-    let outside = outside_of(moved_to(place, no_item()));
-    if outside < ranges::ITEM_WIDTH {
-        return refused(tally, Refusal::OUT_OF_RANGE, outside);
-    }
-    if SLOTS <= slot {
-        return refused(tally, Refusal::NO_SUCH_SLOT, slot);
+    let refusal = tried(tally, moved_to(place, no_item()), slot);
+    if refusal.number != PASSED {
+        return refused(tally, refusal);
     }
     let slots = tally.slots;
     let was = slots[slot];
     if !was.filled {
-        return refused(tally, Refusal::SLOT_EMPTY, slot);
+        return refused(
+            tally,
+            Refusal {
+                number: Refusal::SLOT_EMPTY,
+                place: slot,
+            },
+        );
     }
     let item = moved_to(place, was.item);
     done(listing::with_slot(tally, slot, Slot { filled: true, item }))
