@@ -28,7 +28,8 @@ enum {
 
 /* A tally of 32 slots, as its owner keeps it: five numbers a slot in `slots`, 0 where the slot is empty and any other
  * number where it is filled, then kg, x, y and z of its item; in `totals` the weight, the longitudinal and the vertical
- * moment of what is aboard; and its transverse moment. All zeros are the empty tally. */
+ * moment of what is aboard; and its transverse moment. What an empty slot holds is not tried, counts for nothing and
+ * stays. All zeros are the empty tally. */
 enum {
     RUGULOSCA_SLOTS = 32,
     RUGULOSCA_SLOT_WIDTH = 5,
@@ -83,8 +84,9 @@ uint64_t rugulosca_condition(const int64_t *items, size_t items_length,
                              double *tangent, size_t *place);
 
 /* A step of a tally: loads an item (kg, x, y, z) into an empty slot, discharges a slot, shifts a slot's item to a new
- * place (x, y, z). An answer leaves the tally after it, a filled slot marked by 1, a freed one all zeros. A tally that is
- * handed in with a filled slot out of range, or with totals that are not its items', is refused with 22. */
+ * place (x, y, z). An answer leaves the tally after it, each filled slot marked by 1, a freed one all zeros. A tally that
+ * is handed in with a filled slot out of range, or with totals that are not its items', is refused first of all, with 22
+ * at place 0. The place of 15 to 17 is the slot number, that of 4 the number's in `item`; in `to` it is 1 to 3. */
 uint64_t rugulosca_load(int64_t slots[160], uint64_t totals[3], int64_t *transverse,
                         size_t slot, const int64_t item[4], size_t *place);
 
