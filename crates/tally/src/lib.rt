@@ -94,11 +94,11 @@ fn done(tally: Tally) -> Stepped
 }
 
 // A refused step changes nothing.
-fn refused(tally: Tally, refusal: Refusal) -> Stepped
-    ensures { λ r. ⌜ r ≡ stepped tally (refused (refusal .number) (refusal .place)) ⌝ }
+fn refused(tally: Tally, number: u64, place: usize) -> Stepped
+    ensures { λ r. ⌜ r ≡ stepped tally (refused number place) ⌝ }
 {
     Stepped {
-        answer: Answer::Refused(refusal),
+        answer: Answer::Refused(Refusal { number, place }),
         tally,
     }
 }
@@ -160,18 +160,12 @@ pub fn loaded(tally: Tally, slot: usize, item: Item) -> Stepped
 {
     let refusal = tried(tally, item, slot);
     if refusal.number != PASSED {
-        return refused(tally, refusal);
+        return refused(tally, refusal.number, refusal.place);
     }
     let slots = tally.slots;
     let was = slots[slot];
     if was.filled {
-        return refused(
-            tally,
-            Refusal {
-                number: Refusal::SLOT_TAKEN,
-                place: slot,
-            },
-        );
+        return refused(tally, Refusal::SLOT_TAKEN, slot);
     }
     done(listing::with_slot(tally, slot, Slot { filled: true, item }))
 }
@@ -183,18 +177,12 @@ pub fn discharged(tally: Tally, slot: usize) -> Stepped
     let item = no_item();
     let refusal = tried(tally, item, slot);
     if refusal.number != PASSED {
-        return refused(tally, refusal);
+        return refused(tally, refusal.number, refusal.place);
     }
     let slots = tally.slots;
     let was = slots[slot];
     if !was.filled {
-        return refused(
-            tally,
-            Refusal {
-                number: Refusal::SLOT_EMPTY,
-                place: slot,
-            },
-        );
+        return refused(tally, Refusal::SLOT_EMPTY, slot);
     }
     let freed = Slot {
         filled: false,
@@ -209,18 +197,12 @@ pub fn shifted(tally: Tally, slot: usize, place: Place) -> Stepped
 {
     let refusal = tried(tally, moved_to(place, no_item()), slot);
     if refusal.number != PASSED {
-        return refused(tally, refusal);
+        return refused(tally, refusal.number, refusal.place);
     }
     let slots = tally.slots;
     let was = slots[slot];
     if !was.filled {
-        return refused(
-            tally,
-            Refusal {
-                number: Refusal::SLOT_EMPTY,
-                place: slot,
-            },
-        );
+        return refused(tally, Refusal::SLOT_EMPTY, slot);
     }
     let item = moved_to(place, was.item);
     done(listing::with_slot(tally, slot, Slot { filled: true, item }))
