@@ -135,11 +135,21 @@ fn one_tank(kg: i64) {
 
 fn refusals() {
     say::bytes(b"refusals\n");
+    refused_tables();
+    refused_numbers();
+}
+
+// Tables of a wrong size, and rows that are not usable.
+fn refused_tables() {
     try_load(&[1, 2, 3], &[1], &[]);
     try_load(&[], &[1], &[]);
     try_load(&[], &[], &[1, 2, 3, 4, 5, 6, 7]);
     try_load(&[300_001, 0, 0, 0], &[], &BAD_ROWS);
     try_load(&[300_000, 0, 0, 0, 300_001, 0, 0, 0], &[8_001], &ROWS);
+}
+
+// Numbers out of range, and contents above capacity.
+fn refused_numbers() {
     try_load(&[300_000, 0, 0, 0, 0, 0, 10_001, 0], &[], &ROWS);
     try_load(&[], &[2, 1, 0, 0, 0, 1, 1, 1_501], &ROWS);
     try_load(&[], &[2, 1, 0, 0, 0, 1, 1, 1_500], &ROWS);

@@ -1,23 +1,16 @@
-// The files of data/: every NNN.txt with the answer NNN.out beside it. Below 900 an independent calculation's, from 900 on the papers' own figures.
-ghost use Prim.Native.Nat.{_+_, _≤_};
-ghost use lib.ListN.{length};
+// The offset files of data/: every NNN.txt with the answer NNN.out beside it. Below 900 an independent calculation's, from 900 on the papers' own figures.
+ghost use Prim.Native.Nat.{_≤_};
 ghost use Rattle.ranges.specs.Sizes.{roomForHalfBreadths};
+use crate::data;
+use crate::data::Kind;
 use crate::say;
 use offsets::Read;
 use offsets::Written;
 use ranges::Particulars;
 use report::Report;
 
-// Files are numbered by three digits.
-const NUMBERS: u64 = 1_000;
-
 // There are no fewer than these, so that a lost one is noticed.
 const FEWEST: u64 = 83;
-
-// The endings of a file and of the answer beside it.
-const TEXT: [u8; 3] = [b't', b'x', b't'];
-
-const ANSWER: [u8; 3] = [b'o', b'u', b't'];
 
 // One byte more than a file may have.
 const LONGEST_INPUT: usize = ranges::LONGEST_FILE + 1;
@@ -36,11 +29,11 @@ pub(crate) fn try_all() {
     let mut differing: u64 = 0;
     let mut changed: u64 = 0;
     let mut i: u64 = 0;
-    while i < NUMBERS {
+    while i < data::NUMBERS {
         let trial = trial_at(i);
-        tried = counted(tried, trial.there);
-        differing = counted(differing, trial.differs);
-        changed = counted(changed, trial.changed);
+        tried = data::counted(tried, trial.there);
+        differing = data::counted(differing, trial.differs);
+        changed = data::counted(changed, trial.changed);
         print_failing(i, trial);
         i += 1;
     }
@@ -58,62 +51,9 @@ fn print_failing(i: u64, trial: Trial) {
     }
 }
 
-// One more where it is so.
-fn counted(n: u64, is_so: bool) -> u64
-    requires { ⌜ n ≤ 1000 ⌝ }
-    ensures { λ r. ⌜ r ≤ n + 1 ⌝ }
-{
-    if is_so {
-        return n + 1;
-    }
-    n
-}
-
-// Puts the bytes of a file of data/ into the room, and answers how many.
-pub(crate) fn read_data(i: u64, ending: [u8; 3], text: &mut [u8]) -> usize
-    ensures { λ r. ⌜ r ≤ length (now (text .exit)) ⌝ }
-{
-    let path = name_of(i, ending);
-    let fd = os::open_read(&path);
-    if fd < 0 {
-        os::fail(&path);
-        return 0;
-    }
-    let count = io::read_full(fd, text);
-    libc::close(fd);
-    count
-}
-
-fn digit(n: u64) -> u8 {
-    b'0' + (n % 10) as u8
-}
-
-fn name_of(i: u64, ending: [u8; 3]) -> [u8; 7] {
-    [
-        digit(i / 100),
-        digit(i / 10),
-        digit(i),
-        b'.',
-        ending[0],
-        ending[1],
-        ending[2],
-    ]
-}
-
-// Whether there is a file of this number.
-fn is_there(i: u64) -> bool {
-    let path = name_of(i, TEXT);
-    let fd = os::open_read(&path);
-    if fd < 0 {
-        return false;
-    }
-    libc::close(fd);
-    true
-}
-
 // What trying the file of this number shows; nothing where there is none.
 fn trial_at(i: u64) -> Trial {
-    if is_there(i) {
+    if data::is_there(Kind::Offsets, i) {
         return trial_of(i);
     }
     Trial {
@@ -125,7 +65,7 @@ fn trial_at(i: u64) -> Trial {
 
 fn trial_of(i: u64) -> Trial {
     let mut text = [0u8; LONGEST_INPUT];
-    let count = read_data(i, TEXT, &mut text);
+    let count = data::read(Kind::Offsets, i, &mut text);
     let differs = !is_answer(i, &text[..count]);
     let mut half_breadths = [0u64; ranges::HALF_BREADTH_ROOM];
     let mut items = [0i64; ranges::ITEM_ROOM];
@@ -159,7 +99,7 @@ fn trial_of(i: u64) -> Trial {
 // Whether the sheet of file i's text is the answer that stands beside it.
 fn is_answer(i: u64, text: &[u8]) -> bool {
     let mut answer = [0u8; report::LONGEST_SHEET];
-    let answer_count = read_data(i, ANSWER, &mut answer);
+    let answer_count = data::read(Kind::Sheet, i, &mut answer);
     let mut lines = [0u8; report::LONGEST_SHEET];
     match report::make_report(text, &mut lines) {
         Report::Refused(_) => false,

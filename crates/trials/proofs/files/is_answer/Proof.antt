@@ -5,11 +5,11 @@ use borrow.Author.Needs.{needs}
 use Rattle.trials.proofs.files.is_answer.Statement.{statement}
 use Rattle.trials.proofs.files.is_answer.Tie as tie
 
-slice-aggregate-read-data : tie.Need-slice-aggregate-read-data
-slice-aggregate-read-data c = search needs
+slice-aggregate-read : tie.Need-slice-aggregate-read
+slice-aggregate-read c = search needs
 
-read-data-requires : tie.Need-read-data-requires
-read-data-requires c κs = search needs
+read-requires : tie.Need-read-requires
+read-requires c κs = search needs
 
 slice-aggregate-make-report : tie.Need-slice-aggregate-make-report
 slice-aggregate-make-report c = search needs
@@ -51,8 +51,8 @@ pub is-answer-spec : {M : Type 1} → statement M
 is-answer-spec =
     tie.close
     (tie.spec
-    slice-aggregate-read-data
-    read-data-requires
+    slice-aggregate-read
+    read-requires
     slice-aggregate-make-report
     make-report-requires
     enum-told

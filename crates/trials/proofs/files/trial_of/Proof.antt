@@ -5,11 +5,11 @@ use borrow.Author.Needs.{needs}
 use Rattle.trials.proofs.files.trial_of.Statement.{statement}
 use Rattle.trials.proofs.files.trial_of.Tie as tie
 
-slice-aggregate-read-data : tie.Need-slice-aggregate-read-data
-slice-aggregate-read-data c = search needs
+slice-aggregate-read : tie.Need-slice-aggregate-read
+slice-aggregate-read c = search needs
 
-read-data-requires : tie.Need-read-data-requires
-read-data-requires c κs = search needs
+read-requires : tie.Need-read-requires
+read-requires c κs = search needs
 
 array-share-prefix-text : tie.Need-array-share-prefix-text
 array-share-prefix-text c = search needs
@@ -90,8 +90,8 @@ pub trial-of-spec : {M : Type 1} → statement M
 trial-of-spec =
     tie.close
     (tie.spec
-    slice-aggregate-read-data
-    read-data-requires
+    slice-aggregate-read
+    read-requires
     array-share-prefix-text
     slice-aggregate-is-answer
     is-answer-requires
