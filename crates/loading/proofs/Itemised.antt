@@ -26,7 +26,7 @@ use Rattle.ranges.proofs.Numbered.{numbered}
 use Rattle.ranges.proofs.Outcomes.{refused-not, refusal-same}
 use Rattle.ranges.proofs.Outside.{outside-le}
 use Rattle.loading.specs.Items.{totalsOfItems, itemTotals}
-use Rattle.loading.specs.Private.Aboard.{nothing, _with_, ofItem, ofTank, altogether, aboardOf, ItemsFit}
+use Rattle.loading.specs.Private.Aboard.{nothing, _with_, ofItem, ofTank, altogether, ItemsFit}
 use Rattle.loading.specs.Private.Steady.{totalsWith}
 use Rattle.loading.specs.Promise.{paperTotals}
 use Rattle.loading.specs.Records.{itemsOf, tanksOf, loadOf}

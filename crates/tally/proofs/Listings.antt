@@ -24,7 +24,6 @@ use Rattle.tally.specs.Private.Listing.{roomIn, Lists}
 use Rattle.tally.specs.Tally.{slotCount, freed, aboard, tableOf}
 use Rattle.tally.specs.declared.Item.{Item}
 use Rattle.tally.specs.declared.Slot.{Slot}
-use Rattle.tally.specs.declared.listing.Listed.{Listed}
 
 -- ---- an item of which each number is held by 64 bits, and read back from them
 pub record Held (i : Item) : Type 0 where

@@ -1,25 +1,20 @@
 -- When a tally is sound, by what the table of its items comes to.
---     none-added-up              nothing aboard weighs nothing
---     table-sized                the table of the items aboard is one that a condition takes
---     totals-told                a total that was told is that of the items aboard, all in range
---     unsound-told, sound-told   so a tally is sound or not
---     fitting-told               a tally with a slot changed
+--     none-added-up                nothing aboard weighs nothing
+--     table-sized                  the table of the items aboard is one that a condition takes
+--     totals-told, outside-told    a total that was told is that of the items aboard, all in range; where a refusal was told one is not
+--     unsound-told, sound-told     so a tally is sound or not
 -- Assumes nothing.
 use mathlib.Core.Path.{_≡_, refl, sym, ap, _∙_}
 use mathlib.Core.Bool.{Bool, true, false}
 use mathlib.Core.List.{List, [], _∷_}
-use Prim.Native.Nat.{ℕ, suc, _*_, _/_, _%_, _≤_, _<_}
-use native.Mathlib.Nat.{mul-div-cancel-left, mul-mod-right}
+use Prim.Native.Nat.{ℕ, suc, _*_, _/_, _%_, _≤_}
 use native.Mathlib.Omega.{arith}
 use borrow.Author.Tests.{eq-eqb, le-leb, eqb-true, eqb-false}
-use lib.Dec.{eqb}
 use lib.IntN.{ℤ, pos}
 use lib.ListN.{length}
-use Rattle.arithmetic.specs.Choice.{if_then_else_}
-use Rattle.arithmetic.proofs.Choice.{chosen, if-either}
-use Rattle.arithmetic.proofs.Tests.{never}
+use Rattle.arithmetic.proofs.Choice.{if-either}
 use Rattle.ranges.specs.Fields.{item}
-use Rattle.ranges.specs.Outcome.{Outcome, answered, refused}
+use Rattle.ranges.specs.Outcome.{answered}
 use Rattle.ranges.specs.Outside.{firstOutside}
 use Rattle.ranges.specs.Sizes.{itemWidth, mostItems, wholeRecords}
 use Rattle.ranges.specs.declared.Refusal.{Refusal}

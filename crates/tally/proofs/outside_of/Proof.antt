@@ -1,6 +1,5 @@
 -- Each number is read back from its bits. Assumes nothing.
 use mathlib.Core.Path.{ap, _∙_}
-use mathlib.Core.List.{[], _∷_}
 use borrow.Author.Needs.{needs}
 use Rattle.tally.specs.Tally.{tableOf, outside}
 use Rattle.tally.proofs.Listings.{back-item}

@@ -1,5 +1,5 @@
 -- The items aboard in a table with room for all slots, and slots in range: the words of private contracts.
-use mathlib.Core.Bool.{Bool, true}
+use mathlib.Core.Bool.{true}
 use mathlib.Core.Path.{_≡_}
 use mathlib.Core.List.{List}
 use Prim.Native.Nat.{ℕ, _≤_, _<_}

@@ -3,7 +3,7 @@ use mathlib.Core.Path.{ap, _∙_}
 use mathlib.Core.Bool.{not}
 use lib.Dec.{eqb}
 use borrow.Author.Needs.{needs}
-use Rattle.arithmetic.proofs.Crossing.{back, back-is}
+use Rattle.arithmetic.proofs.Crossing.{back-is}
 use Rattle.rugulosca.proofs.tallies.slot_in.Statement.{statement}
 use Rattle.rugulosca.proofs.tallies.slot_in.Tie as tie
 

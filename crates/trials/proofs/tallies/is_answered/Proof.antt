@@ -1,4 +1,4 @@
--- The steps are counted down. Assumes nothing.
+-- No more steps are taken than the count says. Assumes nothing.
 use Prim.Native.Nat.{_≤_, _-_}
 use native.Mathlib.Omega.{arith}
 use borrow.Author.Needs.{needs}
