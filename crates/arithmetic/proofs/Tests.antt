@@ -1,6 +1,8 @@
 -- What tests tell.
 --     both            both halves of a joint test
 --     never           no test is both false and true
+--     by-test         what follows either way of a test
+--     same-or-other   the same of two numbers, equal or not
 --     same-test       two tests that hold together are the same
 --     less-or-not     one number is below another, or it is not
 --     flag-le         a test, counted, is at most 1
@@ -10,8 +12,8 @@ use mathlib.Core.Bool.{Bool, true, false, _&&_}
 use mathlib.Core.Logic.{_⊎_, inl, inr}
 use mathlib.Core.Path.{_≡_, refl, sym}
 use native.Mathlib.Omega.{arith}
-use borrow.Author.Tests.{ltb-true, ltb-false}
-use lib.Dec.{ltb, lit≤}
+use borrow.Author.Tests.{ltb-true, ltb-false, eqb-true, eqb-false}
+use lib.Dec.{ltb, eqb, lit≤}
 use mir.Val.{boolByte}
 
 pub both : (a b : Bool) → a && b ≡ true → (a ≡ true) × (b ≡ true)
@@ -20,6 +22,13 @@ both false b e = (e, cc)
 
 pub never : {X : Type 0} → false ≡ true → X
 never e = let z : _≡_ {A = ℕ} 0 1 = cc in absurd (omega arith)
+
+pub by-test : {P : Type 0} (t : Bool) → (t ≡ true → P) → (t ≡ false → P) → P
+by-test true x y = x refl
+by-test false x y = y refl
+
+pub same-or-other : {P : Type 0} (j k : ℕ) → (j ≡ k → P) → ((j ≡ k → ⊥) → P) → P
+same-or-other j k same other = by-test (eqb j k) (λ e. same (eqb-true j k e)) (λ e. other (eqb-false j k e))
 
 pub same-test : (a b : Bool) → (a ≡ true → b ≡ true) → (b ≡ true → a ≡ true) → a ≡ b
 same-test true b f g = sym (f refl)

@@ -13,6 +13,7 @@ use lib.IntN.{ℤ, pos}
 use lib.ListN.{length, take, drop, getD, set, replicate, length-set, drop-of-length-le}
 use lib.Seq.{sets, length-sets, take-all}
 use Rattle.arithmetic.proofs.Parts.{drop-step, stored-front}
+use Rattle.loading.specs.Private.Aboard.{numberAt}
 use Rattle.loading.proofs.Walks.{drop-four}
 use Rattle.report.specs.Lines.{mark}
 use Rattle.tally.specs.Tally.{slotCount, freed, empty}
@@ -22,7 +23,7 @@ use Rattle.tally.specs.declared.Tally.{Tally}
 use Rattle.tally.proofs.Listings.{Held, backItem, back-item}
 use Rattle.tally.proofs.Soundness.{none-added-up}
 use Rattle.rugulosca.specs.Panel.{keeping, slotFrom, slotsFrom, tallyFrom, numbersOf, keptOf}
-use Rattle.rugulosca.specs.Private.Places.{slotWidth, slotRoom, numberAt, slotIn}
+use Rattle.rugulosca.specs.Private.Places.{slotWidth, slotRoom, slotIn}
 
 -- ---- there and back
 slot-read : (s : Slot) → slotFrom (pos (mark (s .filled))) (s .item .kg) (s .item .x) (s .item .y) (s .item .z) ≡ s

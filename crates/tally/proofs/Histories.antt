@@ -19,6 +19,7 @@ use lib.ListN.{length, getD, set, replicate, length-set}
 use lib.Seq.{getD-set-same, getD-set-other}
 use Rattle.arithmetic.specs.Choice.{if_then_else_}
 use Rattle.arithmetic.proofs.Choice.{chosen}
+use Rattle.arithmetic.proofs.Tests.{same-or-other}
 use Rattle.ranges.specs.Fields.{item}
 use Rattle.ranges.specs.Outcome.{Outcome, answered, refused, answerWith}
 use Rattle.ranges.specs.Outside.{outsideFrom, firstOutside}
@@ -36,7 +37,7 @@ use Rattle.tally.specs.declared.Slot.{Slot}
 use Rattle.tally.specs.declared.Tally.{Tally}
 use Rattle.tally.proofs.AnyOrder.{InAnyOrder, totals-any-order, count-any-order, range-any-order}
 use Rattle.tally.proofs.InRange.{in-range-moved}
-use Rattle.tally.proofs.Lists.{same-or-other, held, held-listed, held-unlisted, held-entered, held-beside-entered, held-struck, held-beside-struck, held-moved, held-beside-moved, OnceEach, none, more, once-struck, once-moved}
+use Rattle.tally.proofs.Lists.{held, held-listed, held-unlisted, held-entered, held-beside-entered, held-struck, held-beside-struck, held-moved, held-beside-moved, OnceEach, none, more, once-struck, once-moved}
 use Rattle.tally.proofs.Slots.{none-aboard, figure-slot, SlotInRange, freed-in-range, in-range-at, in-range-set, sound-is, sound-in-range}
 
 -- ---- one step of any tally

@@ -1,23 +1,23 @@
 -- The items aboard as a table, slot by slot.
---     Held, back-item              an item read back from its bits
+--     Held, held-told, back-item   an item read back from its bits
 --     table-of-slots               the table of a slot and the rest: an empty one adds nothing
 --     Listing                      the table filled up to a slot, and what is still to come
 --     listing-start, listing-step, listing-end
 -- Assumes nothing.
 use mathlib.Core.Path.{_≡_, refl, sym, ap, subst, _∙_}
-use mathlib.Core.Bool.{Bool, true, false}
 use mathlib.Core.List.{List, [], _∷_, _++_, append-assoc, append-nil}
-use Prim.Native.Nat.{ℕ, suc, _+_, _*_, _≤_, _<_}
+use Prim.Native.Nat.{ℕ, suc, _+_, _*_, _^_, _≤_, _<_}
 use native.Mathlib.Nat.{add-zero}
 use native.Mathlib.Omega.{arith}
 use lib.IntN.{ℤ}
 use lib.ListN.{length, take, drop, getD, set, drop-of-length-le}
 use lib.Seq.{sets, length-sets}
+use lib.Signed.{mag}
 use mir.Syntax.{w64}
 use mir.Val.{SFits}
-use Rattle.arithmetic.specs.Choice.{if_then_else_}
 use Rattle.arithmetic.proofs.Crossing.{back, back-is}
 use Rattle.arithmetic.proofs.Choice.{chosen}
+use Rattle.arithmetic.proofs.Tests.{by-test}
 use Rattle.arithmetic.proofs.Parts.{drop-step, stored-front, stored-behind}
 use Rattle.ranges.specs.Sizes.{itemWidth, roomForItems}
 use Rattle.tally.specs.Private.Listing.{roomIn, Lists}
@@ -31,6 +31,10 @@ pub record Held (i : Item) : Type 0 where
   pub x : SFits w64 (i .x)
   pub y : SFits w64 (i .y)
   pub z : SFits w64 (i .z)
+
+-- by what is told of a struct's numbers, each beside what it is told with
+pub held-told : (i : Item) {A B C D E : Type 0} → (A × (mag (i .kg) < 2 ^ 63)) × ((B × (mag (i .x) < 2 ^ 63)) × ((C × (mag (i .y) < 2 ^ 63)) × ((D × (mag (i .z) < 2 ^ 63)) × E))) → Held i
+held-told i t = record { kg = record { sfits = t .0 .1 }; x = record { sfits = t .1 .0 .1 }; y = record { sfits = t .1 .1 .0 .1 }; z = record { sfits = t .1 .1 .1 .0 .1 } }
 
 abbrev pub backItem : Item → Item
 backItem i = record { kg = back (i .kg); x = back (i .x); y = back (i .y); z = back (i .z) }
@@ -55,18 +59,13 @@ stored-is numbers at i =
 -- ---- one slot
 pub table-of-slots : (s : Slot) (rest : List Slot) → tableOf (aboard (s ∷ rest)) ≡ take (roomIn s) (four (s .item)) ++ tableOf (aboard rest)
 unfolding aboard tableOf
-table-of-slots s rest = by-filled (s .filled) refl
-  where
-    by-filled : (b : Bool) → s .filled ≡ b → tableOf (if s .filled then s .item ∷ aboard rest else aboard rest) ≡ take (roomIn s) (four (s .item)) ++ tableOf (aboard rest)
-    by-filled true e = simp (e, chosen)
-    by-filled false e = simp (e, chosen)
+table-of-slots s rest = by-test (s .filled) (λ e. simp (e, chosen)) (λ e. simp (e, chosen))
 
 stored-by : (numbers : List ℤ) (at : ℕ) (s : Slot) → at + itemWidth ≤ length numbers → take (at + roomIn s) (stored numbers at (s .item)) ≡ take at numbers ++ take (roomIn s) (four (s .item))
-stored-by numbers at s h = by-filled (s .filled) refl
-  where
-    by-filled : (b : Bool) → s .filled ≡ b → take (at + roomIn s) (stored numbers at (s .item)) ≡ take at numbers ++ take (roomIn s) (four (s .item))
-    by-filled true e = simp (e, chosen) (ap (take (at + itemWidth)) (stored-is numbers at (s .item)) ∙ stored-front (four (s .item)) numbers at h)
-    by-filled false e = simp (e, chosen) (rw (add-zero, append-nil) (ap (take at) (stored-is numbers at (s .item)) ∙ stored-behind (four (s .item)) numbers at h))
+stored-by numbers at s h =
+    by-test (s .filled)
+    (λ e. simp (e, chosen) (ap (take (at + itemWidth)) (stored-is numbers at (s .item)) ∙ stored-front (four (s .item)) numbers at h))
+    (λ e. simp (e, chosen) (rw (add-zero, append-nil) (ap (take at) (stored-is numbers at (s .item)) ∙ stored-behind (four (s .item)) numbers at h)))
 
 -- ---- the walk
 pub record Listing (slots : List Slot) (numbers : List ℤ) (count i : ℕ) : Type 0 where

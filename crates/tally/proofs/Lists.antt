@@ -1,5 +1,4 @@
 -- The crane driver's list: what it says of each slot, and that each slot stands on it once.
---     same-or-other                            two slot numbers are the same, or not
 --     held                                     what a slot holds by the list
 --     held-listed, held-unlisted               a listed slot is filled, and one that is not listed is freed
 --     held-entered, held-beside-entered        what is held after a line is entered: in its slot, and in the others;
@@ -8,14 +7,14 @@
 --     OnceEach, once-struck, once-moved        each slot stands on the list once, and there is such a slot; the steps keep it so
 -- Assumes nothing.
 use mathlib.Core.Path.{_≡_, refl, sym, _∙_}
-use mathlib.Core.Bool.{Bool, true, false}
+use mathlib.Core.Bool.{true, false}
 use mathlib.Core.List.{List, [], _∷_}
 use Prim.Native.Nat.{ℕ, _<_}
-use borrow.Author.Tests.{eqb-true, eqb-false, eq-eqb, ne-eqb}
+use borrow.Author.Tests.{eqb-true, eq-eqb, ne-eqb}
 use lib.Dec.{eqb}
 use Rattle.arithmetic.specs.Choice.{if_then_else_}
 use Rattle.arithmetic.proofs.Choice.{chosen, if-either}
-use Rattle.arithmetic.proofs.Tests.{never}
+use Rattle.arithmetic.proofs.Tests.{by-test, never}
 use Rattle.tally.specs.History.{Line, isListed, struck, moved}
 use Rattle.tally.specs.Steps.{movedTo}
 use Rattle.tally.specs.Tally.{slotCount, freed, holding}
@@ -25,14 +24,6 @@ use Rattle.tally.specs.declared.Slot.{Slot}
 unfoldable pub held : List Line → ℕ → Slot
 held [] k = freed
 held (l ∷ rest) k = if eqb (l .slot) k then holding (l .item) else held rest k
-
--- ---- either way of a test
-by-test : {P : Type 0} (t : Bool) → (t ≡ true → P) → (t ≡ false → P) → P
-by-test true x y = x refl
-by-test false x y = y refl
-
-pub same-or-other : {P : Type 0} (j k : ℕ) → (j ≡ k → P) → ((j ≡ k → ⊥) → P) → P
-same-or-other j k same other = by-test (eqb j k) (λ e. same (eqb-true j k e)) (λ e. other (eqb-false j k e))
 
 -- ---- a listed slot
 pub held-listed : (list : List Line) (k : ℕ) → held list k .filled ≡ isListed k list

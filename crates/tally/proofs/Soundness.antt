@@ -5,7 +5,7 @@
 --     unsound-told, sound-told     so a tally is sound or not
 -- Assumes nothing.
 use mathlib.Core.Path.{_≡_, refl, sym, ap, _∙_}
-use mathlib.Core.Bool.{Bool, true, false}
+use mathlib.Core.Bool.{true, false}
 use mathlib.Core.List.{List, [], _∷_}
 use Prim.Native.Nat.{ℕ, suc, _*_, _/_, _%_, _≤_}
 use native.Mathlib.Omega.{arith}
@@ -13,6 +13,7 @@ use borrow.Author.Tests.{eq-eqb, le-leb, eqb-true, eqb-false}
 use lib.IntN.{ℤ, pos}
 use lib.ListN.{length}
 use Rattle.arithmetic.proofs.Choice.{if-either}
+use Rattle.arithmetic.proofs.Tests.{by-test}
 use Rattle.ranges.specs.Fields.{item}
 use Rattle.ranges.specs.Outcome.{answered}
 use Rattle.ranges.specs.Outside.{firstOutside}
@@ -72,21 +73,13 @@ module _ (slots : List Slot) (all : length slots ≡ slotCount) where
 
   module _ {r : Totalled} (e : paperTotals r ≡ itemTotals table) where
     pub totals-told : {totals : Totals} → r ≡ Total totals → (inRange (aboard slots) ≡ true) × (totals ≡ addedUp (aboard slots))
-    totals-told {totals} f = by-range (inRange (aboard slots)) refl
-      where
-        told : itemTotals table ≡ answered totals
-        told = sym e ∙ ap paperTotals f
-
-        by-range : (b : Bool) → inRange (aboard slots) ≡ b → (inRange (aboard slots) ≡ true) × (totals ≡ addedUp (aboard slots))
-        by-range true g = (g, answer-same (sym told ∙ told-in-range g))
-        by-range false g = absurd (told-outside g told)
+    totals-told {totals} f =
+        let told : itemTotals table ≡ answered totals = sym e ∙ ap paperTotals f in
+        by-test (inRange (aboard slots)) (λ g. (g, answer-same (sym told ∙ told-in-range g))) (λ g. absurd (told-outside g told))
 
     pub outside-told : {why : Refusal} → r ≡ Refused why → inRange (aboard slots) ≡ false
-    outside-told {why} f = by-range (inRange (aboard slots)) refl
-      where
-        by-range : (b : Bool) → inRange (aboard slots) ≡ b → inRange (aboard slots) ≡ false
-        by-range true g = refused-not (sym (ap paperTotals f) ∙ e ∙ told-in-range g)
-        by-range false g = g
+    outside-told f =
+        by-test (inRange (aboard slots)) (λ g. refused-not (sym (ap paperTotals f) ∙ e ∙ told-in-range g)) (λ g. g)
 
 -- ---- a tally
 module _ (t : Tally) (all : length (t .slots) ≡ slotCount) {r : Totalled} (e : paperTotals r ≡ itemTotals (tableOf (aboard (t .slots)))) where

@@ -1,9 +1,9 @@
 -- A slot of a tally by the place of its numbers.
 use Prim.Native.Nat.{ℕ, _+_, _*_}
 use mathlib.Core.List.{List}
-use lib.IntN.{ℤ, pos}
-use lib.ListN.{getD}
+use lib.IntN.{ℤ}
 use Rattle.ranges.specs.Sizes.{itemWidth}
+use Rattle.loading.specs.Private.Aboard.{numberAt}
 use Rattle.tally.specs.Tally.{slotCount}
 use Rattle.tally.specs.declared.Slot.{Slot}
 use Rattle.rugulosca.specs.Panel.{slotFrom}
@@ -14,9 +14,6 @@ slotWidth = 1 + itemWidth
 
 abbrev pub slotRoom : ℕ
 slotRoom = slotWidth * slotCount
-
-abbrev pub numberAt : List ℤ → ℕ → ℤ
-numberAt numbers at = getD numbers at (pos 0)
 
 abbrev pub slotIn : List ℤ → ℕ → Slot
 slotIn numbers at =

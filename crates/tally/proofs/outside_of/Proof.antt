@@ -2,7 +2,7 @@
 use mathlib.Core.Path.{ap, _∙_}
 use borrow.Author.Needs.{needs}
 use Rattle.tally.specs.Tally.{tableOf, outside}
-use Rattle.tally.proofs.Listings.{back-item}
+use Rattle.tally.proofs.Listings.{held-told, back-item}
 use Rattle.tally.proofs.outside_of.Statement.{statement}
 use Rattle.tally.proofs.outside_of.Tie as tie
 
@@ -17,7 +17,7 @@ unfolding tableOf
 returns c =
     let held = c .before .before .struct-told .given in
     c .item-outside .ensures
-    ∙ ap outside (back-item (record { kg = record { sfits = held .0 .1 }; x = record { sfits = held .1 .0 .1 }; y = record { sfits = held .1 .1 .0 .1 }; z = record { sfits = held .1 .1 .1 .0 .1 } }))
+    ∙ ap outside (back-item (held-told _ held))
 
 pub outside-of-spec : {M : Type 1} → statement M
 outside-of-spec = tie.close (tie.spec slice-aggregate-item-outside item-outside-requires returns)

@@ -5,6 +5,7 @@ use native.Mathlib.Omega.{arith}
 use borrow.Author.Needs.{needs}
 use Rattle.arithmetic.proofs.Crossing.{back-is}
 use Rattle.tally.specs.Tally.{slotCount}
+use Rattle.tally.proofs.Listings.{held-told}
 use Rattle.rugulosca.proofs.Panels.{Spelling, spelling-start, spelling-step, spelling-end}
 use Rattle.rugulosca.proofs.tallies.numbers_of.Statement.{statement}
 use Rattle.rugulosca.proofs.tallies.numbers_of.Tie as tie
@@ -84,7 +85,7 @@ loop-again c =
     let l = m .before .before .before .before in
     let held = c .before .before .before .struct-told .given in
     spelling-step _ (l .before .good .0 .1 .0 .1) (l .loop .inv) (omega arith) (back-is (record { sfits = m .mark .ok }) ∙ m .mark .ensures)
-    (record { kg = record { sfits = held .0 .1 }; x = record { sfits = held .1 .0 .1 }; y = record { sfits = held .1 .1 .0 .1 }; z = record { sfits = held .1 .1 .1 .0 .1 } })
+    (held-told _ held)
 
 returns : tie.Need-returns Inv-loop μ-loop
 returns c = let l = c .before in spelling-end _ (l .before .good .0 .1 .0 .1) (l .loop .inv) (omega arith)

@@ -4,7 +4,7 @@ use Prim.Native.Nat.{_-_}
 use native.Mathlib.Omega.{arith}
 use borrow.Author.Needs.{needs}
 use Rattle.tally.specs.Tally.{slotCount}
-use Rattle.tally.proofs.Listings.{Listing, listing-start, listing-step, listing-end}
+use Rattle.tally.proofs.Listings.{held-told, Listing, listing-start, listing-step, listing-end}
 use Rattle.tally.proofs.listing.items_aboard.Statement.{statement}
 use Rattle.tally.proofs.listing.items_aboard.Tie as tie
 
@@ -73,7 +73,7 @@ loop-again c =
     let l = c .before .before .before .before .before .before .before .before in
     let held = c .before .before .before .before .struct-told .given in
     listing-step (l .before .args .t1) (l .loop .numbers) (l .loop .count) (l .loop .i) (l .loop .inv) (omega arith) (l .before .good .0 .1 .0 .1) refl
-    (record { kg = record { sfits = held .0 .1 }; x = record { sfits = held .1 .0 .1 }; y = record { sfits = held .1 .1 .0 .1 }; z = record { sfits = held .1 .1 .1 .0 .1 } })
+    (held-told _ held)
     (c .room-in .ensures .0)
     (c .room-in .ensures .1)
 
