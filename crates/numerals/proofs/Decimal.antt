@@ -3,24 +3,24 @@
 --     decimal-induction                           what holds of one digit, and still with one digit more, holds of every number and its digits
 --     all-of-decimal, value-of-decimal            they are digits, and their value is the number
 --     some-of-decimal, length-of-decimal          at least one, and at most k where the number is below 10 ^ k
---     first-of-decimal, leading-zero-of-decimal   a number above 0 does not begin with the digit 0; so there is no leading zero
+--     first-of-decimal                            a number above 0 does not begin with the digit 0
 --     decimal-is-digits                           they are the digits that `io::decimal` writes
 -- Assumes nothing.
 use Prim.Native.Nat.{ℕ, zero, suc, _+_, _-_, _*_, _/_, _%_, _^_, _≤_, _<_}
-use mathlib.Core.Bool.{true, false, and-false}
+use mathlib.Core.Bool.{true, false}
 use mathlib.Core.Path.{_≡_, refl, sym, ap, subst, _∙_}
 use mathlib.Core.List.{List, [], _∷_, _++_}
 use mathlib.Core.Logic.{⊎-elim}
 use native.Mathlib.Nat.{pow-suc, one-le-pow}
 use native.Mathlib.Omega.{arith}
-use borrow.Author.Tests.{lt-ltb, le-ltb, ne-eqb}
+use borrow.Author.Tests.{lt-ltb, le-ltb}
 use lib.ListN.{length, getD, length-append, List·getD-append}
 use Rattle.arithmetic.proofs.Choice.{chosen}
 use Rattle.io.specs.Digits.{glyph, digits, Fewest}
-use Rattle.numerals.specs.Number.{zeroDigit, allDigits, value, leadingZero}
+use Rattle.numerals.specs.Number.{zeroDigit, allDigits, value}
 use Rattle.numerals.specs.Printed.{decimalIn, decimal}
 use Rattle.arithmetic.proofs.Tests.{less-or-not}
-use Rattle.numerals.proofs.Wholes.{all-of-digit, all-of-append, value-of-digit, value-step, leading-zero-is}
+use Rattle.numerals.proofs.Wholes.{all-of-digit, all-of-append, value-of-digit, value-step}
 
 -- ---- its equations: fuel above n never matters
 in-of-digit : (fuel n : ℕ) → n < 10 → decimalIn fuel n ≡ (zeroDigit + n) ∷ []
@@ -111,12 +111,6 @@ first-of-decimal n =
     let r = (zeroDigit + d) ∷ [] in
     (omega (arith, length-append l r), λ more z. e .1 some (sym (List·getD-append l r 0 0 (e .0)) ∙ z)))
     n .1
-
-pub leading-zero-of-decimal : (n : ℕ) → leadingZero (decimal n) ≡ false
-unfolding leadingZero
-leading-zero-of-decimal zero = ap leadingZero (decimal-of-digit 0 (omega arith))
-leading-zero-of-decimal (suc n) =
-    leading-zero-is (decimal (suc n)) ∙ rw (ne-eqb _ _ (first-of-decimal (suc n) (omega arith)), and-false)
 
 -- ---- the digits of `io`
 glyph-is : (d : ℕ) → d < 10 → glyph d ≡ zeroDigit + d

@@ -15,7 +15,7 @@ use Rattle.numerals.specs.Number.{minus, isDigit, mostDigits, isWhole, v
 use Rattle.numerals.specs.Printed.{decimal, printed}
 use Rattle.numerals.specs.declared.reading.Number.the-variants.{Is}
 use Rattle.numerals.proofs.Wholes.{is-whole, first-not-minus, every-digit}
-use Rattle.numerals.proofs.Decimal.{all-of-decimal, value-of-decimal, some-of-decimal, leading-zero-of-decimal, length-of-decimal}
+use Rattle.numerals.proofs.Decimal.{all-of-decimal, value-of-decimal, some-of-decimal, length-of-decimal}
 use Rattle.numerals.proofs.Numbers.{number-of-minus, number-of-plain, said-is}
 
 pub whole-of-decimal : (n : ℕ) → n < 10 ^ mostDigits → isWhole (decimal n) ≡ true
@@ -25,7 +25,6 @@ whole-of-decimal n h =
       all = all-of-decimal n;
       some = some-of-decimal n;
       few = length-of-decimal n mostDigits (omega arith) h;
-      first = leading-zero-of-decimal n;
     })
 
 -- no digits are taken for a minus

@@ -5,20 +5,19 @@
 --     value-of-digit, value-of-append     the value goes on where it stood
 --     value-step                          one digit more
 --     value-lt                            k digits make a number below 10 ^ k
---     leading-zero-is                     a leading zero, by the count and the first byte
 --     Whole, whole-is, is-whole           the parts of a whole number, from the test and back
---     whole-of-none, whole-of-one, whole-of-several, whole-of-many       the test, by the count of digits
+--     whole-of-none, whole-of-some        the test, by the count of digits
 -- Assumes nothing.
 use Prim.Native.Nat.{ℕ, zero, suc, _+_, _-_, _*_, _^_, _≤_, _<_}
-use mathlib.Core.Bool.{true, false, not, _&&_}
+use mathlib.Core.Bool.{true, false}
 use mathlib.Core.Path.{_≡_, refl, _∙_}
 use mathlib.Core.List.{List, [], _∷_, _++_}
 use native.Mathlib.Nat.{pow-succ', pow-zero, mul-le-mul-right, mul-assoc, lt-of-lt-of-le}
 use native.Mathlib.Omega.{arith}
-use borrow.Author.Tests.{le-leb, lt-leb, leb-true, lt-ltb, not-true}
-use lib.Dec.{leb, ltb, eqb}
+use borrow.Author.Tests.{le-leb, leb-true}
+use lib.Dec.{leb}
 use lib.ListN.{length, getD}
-use Rattle.numerals.specs.Number.{minus, zeroDigit, isDigit, allDigits, valueFrom, value, leadingZero, mostDigits, isWhole}
+use Rattle.numerals.specs.Number.{minus, zeroDigit, isDigit, allDigits, valueFrom, value, mostDigits, isWhole}
 use Rattle.arithmetic.proofs.Tests.{both}
 
 pub digit-range : (b : ℕ) → isDigit b ≡ true → (zeroDigit ≤ b) × (b ≤ zeroDigit + 9)
@@ -77,46 +76,29 @@ value-from-lt n (b ∷ l) e =
 pub value-lt : (l : List ℕ) → allDigits l ≡ true → value l < 10 ^ length l
 value-lt l e = omega (arith, value-from-lt 0 l e)
 
-pub leading-zero-is : (l : List ℕ) → leadingZero l ≡ (ltb 1 (length l) && eqb (getD l 0 0) zeroDigit)
-unfolding leadingZero
-leading-zero-is [] = refl
-leading-zero-is (b ∷ []) = refl
-leading-zero-is (b ∷ c ∷ l) = let more : 1 < suc (suc (length l)) = omega arith in rw (lt-ltb _ _ more)
-
--- "1 to 9 digits, no leading zero"
+-- "1 to 9 digits"
 pub record Whole (l : List ℕ) : Type 0 where
   pub all : allDigits l ≡ true
   pub some : 1 ≤ length l
   pub few : length l ≤ mostDigits
-  pub first : leadingZero l ≡ false
 
 pub is-whole : (l : List ℕ) → Whole l → isWhole l ≡ true
 unfolding isWhole
-is-whole l w = rw (w .all, le-leb _ _ (w .some), le-leb _ _ (w .few), w .first)
+is-whole l w = rw (w .all, le-leb _ _ (w .some), le-leb _ _ (w .few))
 
 pub whole-is : (l : List ℕ) → isWhole l ≡ true → Whole l
 unfolding isWhole
 whole-is l e =
-    let t = both _ (not (leadingZero l)) e in
-    let u = both _ (leb (length l) mostDigits) (t .0) in
-    let v = both (allDigits l) (leb 1 (length l)) (u .0) in
-    record { all = v .0; some = leb-true _ _ (v .1); few = leb-true _ _ (u .1); first = not-true _ (t .1) }
+    let t = both _ (leb (length l) mostDigits) e in
+    let u = both (allDigits l) (leb 1 (length l)) (t .0) in
+    record { all = u .0; some = leb-true _ _ (u .1); few = leb-true _ _ (t .1) }
 
--- ---- digits are whole by their count, and where there are several by the first
+-- ---- digits are whole by their count
 module _ (l : List ℕ) (e : allDigits l ≡ true) where
-  whole-by : isWhole l ≡ (leb 1 (length l) && leb (length l) mostDigits && not (ltb 1 (length l) && eqb (getD l 0 0) zeroDigit))
-  unfolding isWhole
-  whole-by = rw (e, leading-zero-is)
-
   pub whole-of-none : length l ≡ 0 → isWhole l ≡ false
-  whole-of-none h = rw (whole-by, h)
+  unfolding isWhole
+  whole-of-none h = rw (e, h)
 
-  pub whole-of-one : length l ≡ 1 → isWhole l ≡ true
-  whole-of-one h = rw (whole-by, h)
-
-  pub whole-of-several : 1 < length l → length l ≤ mostDigits → isWhole l ≡ not (eqb (getD l 0 0) zeroDigit)
-  whole-of-several h k =
-      let some : 1 ≤ length l = omega arith in rw (whole-by, le-leb _ _ some, le-leb _ _ k, lt-ltb _ _ h)
-
-  pub whole-of-many : mostDigits < length l → isWhole l ≡ false
-  whole-of-many h = let some : 1 ≤ length l = omega arith in rw (whole-by, le-leb _ _ some, lt-leb _ _ h)
+  pub whole-of-some : 1 ≤ length l → isWhole l ≡ leb (length l) mostDigits
+  unfolding isWhole
+  whole-of-some h = rw (e, le-leb _ _ h)

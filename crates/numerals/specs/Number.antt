@@ -1,5 +1,5 @@
--- What a token says. "A run of other bytes is one token and must be a number: an optional minus, then 1 to 9 digits,
--- no leading zero unless the number is 0, and no minus zero."
+-- What a token says. "A run of other bytes is one token and must be a number: an optional minus, then 1 to 9 digits"; leading zeros
+-- are allowed within the nine, and "minus zero stays refused, as does minus with only zeros".
 use Prim.Native.Nat.{ℕ, _+_, _-_, _*_}
 use mathlib.Core.Bool.{Bool, true, false, not, _&&_}
 use mathlib.Core.List.{List, [], _∷_}
@@ -32,21 +32,14 @@ valueFrom n (b ∷ rest) = valueFrom (n * 10 + (b - zeroDigit)) rest
 abbrev pub value : List ℕ → ℕ
 value digits = valueFrom 0 digits
 
--- "no leading zero unless the number is 0": 0 itself is written by its one digit
-unfoldable pub leadingZero : List ℕ → Bool
-leadingZero [] = false
-leadingZero (b ∷ []) = false
-leadingZero (b ∷ c ∷ rest) = eqb b zeroDigit
-
 -- "1 to 9 digits"
 abbrev pub mostDigits : ℕ
 mostDigits = 9
 
--- "1 to 9 digits, no leading zero"
 unfoldable pub isWhole : List ℕ → Bool
-isWhole digits = allDigits digits && leb 1 (length digits) && leb (length digits) mostDigits && not (leadingZero digits)
+isWhole digits = allDigits digits && leb 1 (length digits) && leb (length digits) mostDigits
 
--- "an optional minus", "no minus zero"
+-- "an optional minus", and no number 0 after it, however many zeros
 unfoldable pub numberOf : List ℕ → Number
 numberOf [] = Not
 numberOf (b ∷ rest) =

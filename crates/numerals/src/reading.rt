@@ -1,5 +1,5 @@
 // Reading: an optional minus, the digits after it, and whether they make a number.
-// The bytes are passed over once; the first alone is looked at again, for a minus and for a leading zero.
+// The bytes are passed over once; the first alone is looked at again, for a minus.
 ghost use mathlib.Core.Bool.{true};
 ghost use mathlib.Core.Path.{_≡_};
 ghost use Prim.Native.Nat.{_≤_, min};
@@ -101,7 +101,7 @@ fn digits_from(text: &[u8], from: usize) -> Digits
     Digits { value, stop }
 }
 
-// Whether digits make a whole number: one to nine of them, and no leading zero.
+// Whether digits make a whole number: one to nine of them.
 fn is_whole(digits: &[u8]) -> bool
     requires { ⌜ allDigits (now digits) ≡ true ⌝ }
     ensures { λ r. ⌜ r ≡ isWhole (now (digits .entry)) ⌝ }
@@ -110,13 +110,7 @@ fn is_whole(digits: &[u8]) -> bool
     if count == 0 {
         return false;
     }
-    if MOST_DIGITS < count {
-        return false;
-    }
-    if count == 1 {
-        return true;
-    }
-    digits[0] != b'0'
+    count <= MOST_DIGITS
 }
 
 fn is_digit(b: u8) -> bool

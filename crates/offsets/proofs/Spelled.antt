@@ -19,7 +19,7 @@ use Rattle.arithmetic.proofs.Choice.{chosen}
 use Rattle.numerals.specs.Number.{mostDigits, numberOf}
 use Rattle.numerals.specs.Printed.{printed}
 use Rattle.numerals.proofs.Printed.{number-of-printed, some-of-printed, length-of-printed, every-printed}
-use Rattle.offsets.specs.Tokens.{Token, number, isSeparator, said, closed, tokensFrom, space, lineFeed}
+use Rattle.offsets.specs.Tokens.{Token, number, isSeparator, said, closed, tokensBy, tokensFrom, space, lineFeed}
 use Rattle.offsets.specs.Written.{line, lines}
 use Rattle.offsets.proofs.Words.{Clear, none, more, digit-no-separator}
 
@@ -42,18 +42,18 @@ clear-printed v = clear-of (printed v) (every-printed (λ b. isSeparator b ≡ f
 
 -- bytes that are no separators go into the run
 run-takes : {w : List ℕ} → Clear w → (place : ℕ) (run rest : List ℕ) → tokensFrom place run (w ++ rest) ≡ tokensFrom (place + length w) (run ++ w) rest
-unfolding tokensFrom
+unfolding tokensBy
 run-takes none place run rest = simp (add-zero, append-nil)
 run-takes (more {b = b} {l = l} e c) place run rest =
     let end : place + 1 + length l ≡ place + suc (length l) = omega arith in
     rw e (simp chosen (run-takes c (place + 1) (run ++ b ∷ []) rest ∙ rw (end, append-assoc run (b ∷ []) l)))
 
 -- and are closed at a separator
-run-closes : (b place : ℕ) (run text : List ℕ) → isSeparator b ≡ true → tokensFrom place run (b ∷ text) ≡ closed place run (tokensFrom (place + 1) [] text)
-unfolding tokensFrom
+run-closes : (b place : ℕ) (run text : List ℕ) → isSeparator b ≡ true → tokensFrom place run (b ∷ text) ≡ closed isSeparator numberOf place run (tokensFrom (place + 1) [] text)
+unfolding tokensBy
 run-closes b place run text e = rw e (simp chosen)
 
-closed-is : (place : ℕ) (run : List ℕ) (rest : List Token) → 0 < length run → closed (place + length run) run rest ≡ said place (numberOf run) ∷ rest
+closed-is : (place : ℕ) (run : List ℕ) (rest : List Token) → 0 < length run → closed isSeparator numberOf (place + length run) run rest ≡ said place (numberOf run) ∷ rest
 unfolding closed
 closed-is place [] rest h = absurd (omega arith)
 closed-is place (b ∷ run) rest h = let start : place + suc (length run) - suc (length run) ≡ place = omega arith in rw start
@@ -68,7 +68,7 @@ module _ (v : ℤ) (b place : ℕ) (text : List ℕ) where
       ∙ rw (number-of-printed v h)
 
 says-none : (place : ℕ) → Says [] (tokensFrom place [] [])
-unfolding tokensFrom closed
+unfolding tokensBy closed
 says-none place = silent
 
 pub spells-says : {vs : List ℤ} {text : List ℕ} → Spells vs text → (place : ℕ) → Says vs (tokensFrom place [] text)

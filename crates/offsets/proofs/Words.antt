@@ -26,17 +26,17 @@ use Rattle.numerals.specs.declared.reading.Number.the-variants.{Not}
 use Rattle.numerals.specs.declared.reading.Numeral.the-variants.{Ends, None}
 use Rattle.numerals.proofs.Fronts as Fronts
 use Rattle.numerals.proofs.Wholes.{digit-range}
-use Rattle.offsets.specs.Tokens.{Token, number, noNumber, space, lineFeed, isSeparator, said, closed, tokensFrom}
+use Rattle.offsets.specs.Tokens.{Token, number, noNumber, space, lineFeed, tab, carriageReturn, isSeparator, said, closed, tokensBy, tokensFrom}
 use Rattle.offsets.specs.Private.Steps.{tokensAt, endsHere, Begins, FirstByte}
 
 -- ---- separators, and the end
 module _ (text : List ℕ) (i : ℕ) where
   pub at-separator : i < length text → isSeparator (getD text i 0) ≡ true → tokensAt text (i + 1) ≡ tokensAt text i
-  unfolding tokensAt tokensFrom closed
+  unfolding tokensAt tokensBy closed
   at-separator h e = sym (rw (drop-step text i 0 h, e) (simp chosen))
 
   pub at-end : length text ≤ i → tokensAt text i ≡ []
-  unfolding tokensAt tokensFrom closed
+  unfolding tokensAt tokensBy closed
   at-end h = rw (drop-of-length-le text h)
 
 -- ---- a run of bytes that are no separators
@@ -78,8 +78,8 @@ parted [] = nothing
 parted (b ∷ text) = if-either Parted (isSeparator b) (λ e. separated e) (λ e. parted text)
 
 -- a run that is followed by no byte of its token is closed there
-run-ends : (place : ℕ) (run : List ℕ) {rest : List ℕ} → Parted rest → tokensFrom place run rest ≡ closed place run (tokensFrom place [] rest)
-unfolding tokensFrom closed
+run-ends : (place : ℕ) (run : List ℕ) {rest : List ℕ} → Parted rest → tokensFrom place run rest ≡ closed isSeparator numberOf place run (tokensFrom place [] rest)
+unfolding tokensBy closed
 run-ends place run nothing = refl
 run-ends place run (separated e) = rw e (simp chosen)
 
@@ -91,7 +91,7 @@ module _ (b : ℕ) (text : List ℕ) (place : ℕ) (run : List ℕ) where
   goes-on true e h = simp (chosen, append-nil, add-zero)
   goes-on false e h =
       simp chosen
-      (unfold tokensFrom in (rw e (simp chosen (h ∙ rw append-assoc (ap (λ k. tokensFrom k (run ++ b ∷ word text) (beyond text)) (omega arith))))))
+      (unfold tokensBy in (rw e (simp chosen (h ∙ rw append-assoc (ap (λ k. tokensFrom k (run ++ b ∷ word text) (beyond text)) (omega arith))))))
 
 run-goes-on : (text : List ℕ) (place : ℕ) (run : List ℕ) → tokensFrom place run text ≡ tokensFrom (place + length (word text)) (run ++ word text) (beyond text)
 unfolding word beyond
@@ -118,7 +118,7 @@ module _ (text : List ℕ) (at b : ℕ) (l : List ℕ) (d : drop at text ≡ b �
   after = sym (drop-drop (length here) at text) ∙ ap (drop (length here)) whole ∙ drop-at here (beyond l) (length here) refl
 
   opened : tokensAt text at ≡ tokensFrom (at + 1) (b ∷ []) l
-  unfolding tokensAt tokensFrom
+  unfolding tokensAt tokensBy
   opened = rw (d, e) (simp chosen)
 
   taken : tokensFrom (at + 1) (b ∷ []) l ≡ tokensFrom (at + length here) here (beyond l)
@@ -126,7 +126,7 @@ module _ (text : List ℕ) (at b : ℕ) (l : List ℕ) (d : drop at text ≡ b �
       let place : at + 1 + length (word l) ≡ at + length here = omega arith in
       run-goes-on l (at + 1) (b ∷ []) ∙ ap (λ k. tokensFrom k here (beyond l)) place
 
-  shut : closed (at + length here) here (tokensFrom (at + length here) [] (beyond l)) ≡ said at (numberOf here) ∷ tokensAt text (at + length here)
+  shut : closed isSeparator numberOf (at + length here) here (tokensFrom (at + length here) [] (beyond l)) ≡ said at (numberOf here) ∷ tokensAt text (at + length here)
   unfolding closed tokensAt
   shut = let back : at + length here - length here ≡ at = omega arith in rw (back, after)
 
@@ -146,7 +146,9 @@ token-at text at h e = begun text at (getD text at 0) (drop (at + 1) text) (drop
 -- ---- what is read at its first byte
 pub digit-no-separator : (b : ℕ) → isDigit b ≡ true → isSeparator b ≡ false
 unfolding isSeparator
-digit-no-separator b e = let range = digit-range b e in rw (ne-eqb b space (λ z. omega arith), ne-eqb b lineFeed (λ z. omega arith))
+digit-no-separator b e =
+    let range = digit-range b e in
+    rw (ne-eqb b space (λ z. omega arith), ne-eqb b lineFeed (λ z. omega arith), ne-eqb b tab (λ z. omega arith), ne-eqb b carriageReturn (λ z. omega arith))
 
 clear-digits : (most : ℕ) (text : List ℕ) → Clear (digitsOf most text)
 unfolding digitsOf

@@ -62,5 +62,13 @@ fn ends_here(text: &[u8], place: usize) -> bool
 fn is_separator(b: u8) -> bool
     ensures { λ r. ⌜ r ≡ isSeparator b ⌝ }
 {
-    if b == b' ' { true } else { b == b'\n' }
+    if b == b' ' {
+        true
+    } else if b == b'\n' {
+        true
+    } else if b == b'\t' {
+        true
+    } else {
+        b == b'\r'
+    }
 }
