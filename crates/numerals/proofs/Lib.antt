@@ -2,6 +2,7 @@
 pub mod Wholes
 pub mod Decimal
 pub mod Numbers
+pub mod Padded
 pub mod Printed
 pub mod Fronts
 pub mod Taken

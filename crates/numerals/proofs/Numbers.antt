@@ -6,6 +6,7 @@
 --     said-lt, number-lt                   a number that is said is below 1,000,000,000, whatever its sign
 --     number-back                          so 64 bits hold it
 --     not-number                           a token that says no number says `Not`
+--     every-byte                           what holds of a minus and of digits holds of each byte of a number
 -- Assumes nothing.
 use Prim.Native.Nat.{ℕ, zero, suc, _^_, _≤_, _<_}
 use mathlib.Core.Bool.{Bool, true, false, not, _&&_, and-true, and-false}
@@ -20,12 +21,12 @@ use lib.ListN.{length, getD}
 use Rattle.arithmetic.specs.Choice.{if_then_else_}
 use Rattle.arithmetic.proofs.Choice.{chosen}
 use Rattle.arithmetic.proofs.Crossing.{back, back-is, mag-le}
-use Rattle.numerals.specs.Number.{minus, mostDigits, isWhole, value, allDigits, numberOf}
+use Rattle.numerals.specs.Number.{minus, isDigit, mostDigits, isWhole, value, allDigits, numberOf}
 use Rattle.numerals.specs.Private.Sign.{withSign, saidBy}
 use Rattle.numerals.specs.declared.reading.Number.{Number}
 use Rattle.numerals.specs.declared.reading.Number.the-variants.{Is, Not}
 use Rattle.arithmetic.proofs.Tests.{both}
-use Rattle.numerals.proofs.Wholes.{Whole, whole-is, value-lt}
+use Rattle.numerals.proofs.Wholes.{Whole, whole-is, value-lt, every-digit}
 
 pub data Signed : List ℕ → Type 0 where
   after-minus : (l : List ℕ) → Signed (minus ∷ l)
@@ -103,3 +104,11 @@ not-number t h = told (numberOf t) refl
     told : (n : Number) → numberOf t ≡ n → n ≡ Not
     told (Is v) e = absurd (h v e)
     told Not e = refl
+
+pub every-byte : (P : ℕ → Type 0) → P minus → ((b : ℕ) → isDigit b ≡ true → P b) → (t : List ℕ) {v : ℤ} → numberOf t ≡ Is v → (k : ℕ) → k < length t → P (getD t k 0)
+every-byte P first digit t e = go (sign-of t) e
+  where
+    go : {t : List ℕ} → Signed t → {v : ℤ} → numberOf t ≡ Is v → (k : ℕ) → k < length t → P (getD t k 0)
+    go (after-minus l) e zero h = first
+    go (after-minus l) e (suc k) h = every-digit P digit l (said-parts true l (sym (number-of-minus l) ∙ e) .0 .all) k (omega arith)
+    go (plain {l} p) e k h = every-digit P digit l (said-parts false l (sym (number-of-plain l p) ∙ e) .0 .all) k h

@@ -3,7 +3,6 @@
 --     number-of-printed                   what is printed says the number again
 --     printed-injective                   two numbers are never printed alike
 --     some-of-printed, length-of-printed  at least one byte, and at most k and a minus where the number is k digits long
---     every-printed                       what holds of a minus and of digits holds of each byte
 -- Assumes nothing.
 use Prim.Native.Nat.{ℕ, zero, suc, _+_, _^_, _≤_, _<_}
 use mathlib.Core.Bool.{true, false, false≢true}
@@ -11,10 +10,10 @@ use mathlib.Core.Path.{_≡_, sym, ap, _∙_}
 use native.Mathlib.Omega.{arith}
 use lib.IntN.{ℤ, pos, negsuc, negℤ, natAbs}
 use lib.ListN.{length, drop, getD}
-use Rattle.numerals.specs.Number.{minus, isDigit, mostDigits, isWhole, value, numberOf}
+use Rattle.numerals.specs.Number.{minus, mostDigits, isWhole, value, numberOf}
 use Rattle.numerals.specs.Printed.{decimal, printed}
 use Rattle.numerals.specs.declared.reading.Number.the-variants.{Is}
-use Rattle.numerals.proofs.Wholes.{is-whole, first-not-minus, every-digit}
+use Rattle.numerals.proofs.Wholes.{is-whole, first-not-minus}
 use Rattle.numerals.proofs.Decimal.{all-of-decimal, value-of-decimal, some-of-decimal, length-of-decimal}
 use Rattle.numerals.proofs.Numbers.{number-of-minus, number-of-plain, said-is}
 
@@ -58,9 +57,3 @@ pub length-of-printed : (v : ℤ) (k : ℕ) → 1 ≤ k → natAbs v < 10 ^ k �
 unfolding printed
 length-of-printed (pos n) k h fits = omega (arith, length-of-decimal n k h fits)
 length-of-printed (negsuc n) k h fits = omega (arith, length-of-decimal (suc n) k h fits)
-
-pub every-printed : (P : ℕ → Type 0) → P minus → ((b : ℕ) → isDigit b ≡ true → P b) → (v : ℤ) (k : ℕ) → k < length (printed v) → P (getD (printed v) k 0)
-unfolding printed
-every-printed P first other (pos n) k h = every-digit P other (decimal n) (all-of-decimal n) k h
-every-printed P first other (negsuc n) zero h = first
-every-printed P first other (negsuc n) (suc k) h = every-digit P other (decimal (suc n)) (all-of-decimal (suc n)) k (omega arith)

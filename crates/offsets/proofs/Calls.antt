@@ -30,7 +30,7 @@ use Rattle.offsets.specs.declared.Written.{Written}
 use Rattle.offsets.specs.declared.Written.the-variants.{Wrote}
 use Rattle.offsets.proofs.Answers.{on-file}
 use Rattle.offsets.proofs.RoundTrip.{contentsOf, written-is-read, read-is-written}
-use Rattle.offsets.proofs.Sound.{Sound, recordsIn, length-of-half-breadths, length-of-items, length-of-tanks, file-sound}
+use Rattle.offsets.proofs.Sound.{Sound, recordsIn, length-of-half-breadths, length-of-items, length-of-tanks, file-in}
 use Rattle.offsets.proofs.Unique.{read-paper-injective, written-paper-injective}
 
 -- a reader that read contents answers and leaves them
@@ -109,7 +109,7 @@ reader-sound text h i t e =
     let b = not-refused _ _ (a .1) in
     let d = not-refused _ _ (b .1) in
     let f = not-refused _ _ (d .1) in
-    file-sound (length text) (tokens text) (f .1)
+    file-in (length text) (tokens text) (f .1) .sound
 
 -- the contents that a reader read to answer a summary: they are sound, and the fronts of its tables
 pub record ReadContents (text h₀ h' : List ℕ) (i₀ i' t₀ t' : List ℤ) (summary : Summary) : Type 0 where

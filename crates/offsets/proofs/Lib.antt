@@ -7,9 +7,12 @@ pub mod Runs
 pub mod Copies
 pub mod Chain
 pub mod Answers
+pub mod Layouts
 pub mod Spelled
 pub mod InRanges
 pub mod Sound
+pub mod Editors
+pub mod AsBefore
 pub mod Tried
 pub mod RoundTrip
 pub mod Unique

@@ -1,7 +1,6 @@
--- Numbers spelled out in a text, and said by its tokens.
---     Says                                 tokens that say some numbers, wherever they stand
+-- Numbers spelled out in a text, as they are printed.
 --     Spells                               a text of numbers, none of more than nine digits, each with a separator after it
---     spells-says                          the tokens of a text that spells numbers say them
+--     spells-holds                         it holds the numbers that it spells
 --     spells-append                        two such texts, one after the other
 --     mostSpelled, length-of-spelled       eleven bytes a number at the most
 --     Short, short-take, short-drop        numbers of nine digits at the most, and parts of them
@@ -18,62 +17,18 @@ use lib.ListN.{length, take, drop, getD, length-append, length-take, length-drop
 use Rattle.arithmetic.proofs.Choice.{chosen}
 use Rattle.numerals.specs.Number.{mostDigits, numberOf}
 use Rattle.numerals.specs.Printed.{printed}
-use Rattle.numerals.proofs.Printed.{number-of-printed, some-of-printed, length-of-printed, every-printed}
-use Rattle.offsets.specs.Tokens.{Token, number, isSeparator, said, closed, tokensBy, tokensFrom, space, lineFeed}
+use Rattle.numerals.proofs.Printed.{number-of-printed, length-of-printed}
+use Rattle.offsets.specs.Tokens.{isSeparator, space, lineFeed}
 use Rattle.offsets.specs.Written.{line, lines}
-use Rattle.offsets.proofs.Words.{Clear, none, more, digit-no-separator}
-
-pub data Says : List ℤ → List Token → Type 0 where
-  silent : Says [] []
-  followed : {v : ℤ} {vs : List ℤ} {place : ℕ} {ts : List Token} → Says vs ts → Says (v ∷ vs) (number place v ∷ ts)
+use Rattle.offsets.proofs.Layouts.{Holds, nothing, before}
 
 pub data Spells : List ℤ → List ℕ → Type 0 where
   empty : Spells [] []
   next : {vs : List ℤ} {text : List ℕ} (v : ℤ) (b : ℕ) → natAbs v < 10 ^ mostDigits → isSeparator b ≡ true → Spells vs text → Spells (v ∷ vs) (printed v ++ b ∷ text)
 
--- ---- a printed number is one token
-clear-of : (l : List ℕ) → ((k : ℕ) → k < length l → isSeparator (getD l k 0) ≡ false) → Clear l
-clear-of [] h = none
-clear-of (b ∷ l) h = more (h zero (omega arith)) (clear-of l (λ k lt. h (suc k) (omega arith)))
-
-clear-printed : (v : ℤ) → Clear (printed v)
-unfolding isSeparator
-clear-printed v = clear-of (printed v) (every-printed (λ b. isSeparator b ≡ false) refl digit-no-separator v)
-
--- bytes that are no separators go into the run
-run-takes : {w : List ℕ} → Clear w → (place : ℕ) (run rest : List ℕ) → tokensFrom place run (w ++ rest) ≡ tokensFrom (place + length w) (run ++ w) rest
-unfolding tokensBy
-run-takes none place run rest = simp (add-zero, append-nil)
-run-takes (more {b = b} {l = l} e c) place run rest =
-    let end : place + 1 + length l ≡ place + suc (length l) = omega arith in
-    rw e (simp chosen (run-takes c (place + 1) (run ++ b ∷ []) rest ∙ rw (end, append-assoc run (b ∷ []) l)))
-
--- and are closed at a separator
-run-closes : (b place : ℕ) (run text : List ℕ) → isSeparator b ≡ true → tokensFrom place run (b ∷ text) ≡ closed isSeparator numberOf place run (tokensFrom (place + 1) [] text)
-unfolding tokensBy
-run-closes b place run text e = rw e (simp chosen)
-
-closed-is : (place : ℕ) (run : List ℕ) (rest : List Token) → 0 < length run → closed isSeparator numberOf (place + length run) run rest ≡ said place (numberOf run) ∷ rest
-unfolding closed
-closed-is place [] rest h = absurd (omega arith)
-closed-is place (b ∷ run) rest h = let start : place + suc (length run) - suc (length run) ≡ place = omega arith in rw start
-
-module _ (v : ℤ) (b place : ℕ) (text : List ℕ) where
-  number-token : natAbs v < 10 ^ mostDigits → isSeparator b ≡ true → tokensFrom place [] (printed v ++ b ∷ text) ≡ number place v ∷ tokensFrom (place + length (printed v) + 1) [] text
-  unfolding said
-  number-token h e =
-      run-takes (clear-printed v) place [] (b ∷ text)
-      ∙ run-closes b (place + length (printed v)) (printed v) text e
-      ∙ closed-is place (printed v) _ (some-of-printed v)
-      ∙ rw (number-of-printed v h)
-
-says-none : (place : ℕ) → Says [] (tokensFrom place [] [])
-unfolding tokensBy closed
-says-none place = silent
-
-pub spells-says : {vs : List ℤ} {text : List ℕ} → Spells vs text → (place : ℕ) → Says vs (tokensFrom place [] text)
-spells-says empty place = says-none place
-spells-says (next {text = text} v b h e s) place = rw (number-token v b place text h e) (followed (spells-says s (place + length (printed v) + 1)))
+pub spells-holds : {vs : List ℤ} {text : List ℕ} → Spells vs text → Holds isSeparator numberOf vs text
+spells-holds empty = nothing
+spells-holds (next v b h e s) = before (number-of-printed v h) e (spells-holds s)
 
 pub spells-append : {vs ws : List ℤ} {a b : List ℕ} → Spells vs a → Spells ws b → Spells (vs ++ ws) (a ++ b)
 spells-append empty t = t
