@@ -6,7 +6,7 @@
 --     said-lt, number-lt                   a number that is said is below 1,000,000,000, whatever its sign
 --     number-back                          so 64 bits hold it
 --     not-number                           a token that says no number says `Not`
---     every-byte                           what holds of a minus and of digits holds of each byte of a number
+--     some-of-number, every-byte           a number has a byte; what holds of a minus and of digits holds of each of them
 -- Assumes nothing.
 use Prim.Native.Nat.{ℕ, zero, suc, _^_, _≤_, _<_}
 use mathlib.Core.Bool.{Bool, true, false, not, _&&_, and-true, and-false}
@@ -104,6 +104,11 @@ not-number t h = told (numberOf t) refl
     told : (n : Number) → numberOf t ≡ n → n ≡ Not
     told (Is v) e = absurd (h v e)
     told Not e = refl
+
+pub some-of-number : (t : List ℕ) {v : ℤ} → numberOf t ≡ Is v → 0 < length t
+unfolding numberOf
+some-of-number [] e = let z : _≡_ {A = ℕ} 0 1 = cc in absurd (omega arith)
+some-of-number (b ∷ t) e = omega arith
 
 pub every-byte : (P : ℕ → Type 0) → P minus → ((b : ℕ) → isDigit b ≡ true → P b) → (t : List ℕ) {v : ℤ} → numberOf t ≡ Is v → (k : ℕ) → k < length t → P (getD t k 0)
 every-byte P first digit t e = go (sign-of t) e

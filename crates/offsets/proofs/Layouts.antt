@@ -3,12 +3,11 @@
 --     Holds                          a text that holds some numbers: separators in any number, and each number in a token that says it
 --     says-held                      numbers that a text's tokens say are held by it
 --     holds-says                     numbers that a text holds are said by its tokens
--- of the first two, and of `says-held`, whichever bytes separate and whatever a token says. Assumes nothing.
+-- `Holds` and `says-held` are for any grammar: whichever bytes separate, and whatever a token says. Assumes nothing.
 use mathlib.Core.Path.{_≡_, refl, sym, ap, subst, _∙_}
 use mathlib.Core.Bool.{Bool, true, false}
 use mathlib.Core.List.{List, [], _∷_, _++_, append-assoc, append-nil}
 use Prim.Native.Nat.{ℕ, zero, suc, _+_, _-_, _<_}
-use native.Mathlib.Nat.{add-zero}
 use native.Mathlib.Omega.{arith}
 use lib.IntN.{ℤ}
 use lib.ListN.{length, getD}
@@ -16,9 +15,9 @@ use Rattle.arithmetic.proofs.Choice.{chosen, if-either}
 use Rattle.numerals.specs.Number.{minus, numberOf}
 use Rattle.numerals.specs.declared.reading.Number.{Number}
 use Rattle.numerals.specs.declared.reading.Number.the-variants.{Is, Not}
-use Rattle.numerals.proofs.Numbers.{every-byte}
+use Rattle.numerals.proofs.Numbers.{every-byte, some-of-number}
 use Rattle.offsets.specs.Tokens.{Token, number, noNumber, isSeparator, said, closed, tokensBy, tokensFrom}
-use Rattle.offsets.proofs.Words.{Clear, none, more, digit-no-separator}
+use Rattle.offsets.proofs.Words.{Clear, none, more, digit-no-separator, run-takes, closed-is}
 
 pub data Says : List ℤ → List Token → Type 0 where
   silent : Says [] []
@@ -87,32 +86,23 @@ pub clear-number : (token : List ℕ) {v : ℤ} → numberOf token ≡ Is v → 
 unfolding isSeparator
 clear-number token e = clear-of token (every-byte (λ b. isSeparator b ≡ false) refl digit-no-separator token e)
 
--- bytes that are no separators go into the run
-run-takes : {w : List ℕ} → Clear w → (place : ℕ) (run rest : List ℕ) → tokensFrom place run (w ++ rest) ≡ tokensFrom (place + length w) (run ++ w) rest
-unfolding tokensBy
-run-takes none place run rest = simp (add-zero, append-nil)
-run-takes (more {b = b} {l = l} e c) place run rest =
-    let end : place + 1 + length l ≡ place + suc (length l) = omega arith in
-    rw e (simp chosen (run-takes c (place + 1) (run ++ b ∷ []) rest ∙ rw (end, append-assoc run (b ∷ []) l)))
-
 -- a run that is a number is one token
-closed-is : (place : ℕ) (run : List ℕ) {v : ℤ} (rest : List Token) → numberOf run ≡ Is v → closed isSeparator numberOf (place + length run) run rest ≡ number place v ∷ rest
-unfolding closed said numberOf
-closed-is place [] rest e = let z : _≡_ {A = ℕ} 0 1 = cc in absurd (omega arith)
-closed-is place (b ∷ run) rest e = let start : place + suc (length run) - suc (length run) ≡ place = omega arith in rw (start, e)
+closed-number : (place : ℕ) (run : List ℕ) {v : ℤ} (rest : List Token) → numberOf run ≡ Is v → closed isSeparator numberOf (place + length run) run rest ≡ number place v ∷ rest
+unfolding said
+closed-number place run rest e = closed-is place run rest (some-of-number run e) ∙ rw e
 
 module _ (place : ℕ) (token : List ℕ) {v : ℤ} (e : numberOf token ≡ Is v) where
   token-last : tokensFrom place [] token ≡ number place v ∷ []
   unfolding tokensBy
   token-last =
       ap (tokensFrom place []) (sym (append-nil token)) ∙ run-takes (clear-number token e) place [] []
-      ∙ closed-is place token [] e
+      ∙ closed-number place token [] e
 
   token-before : (b : ℕ) (text : List ℕ) → isSeparator b ≡ true → tokensFrom place [] (token ++ b ∷ text) ≡ number place v ∷ tokensFrom (place + length token + 1) [] text
   unfolding tokensBy
   token-before b text s =
       run-takes (clear-number token e) place [] (b ∷ text)
-      ∙ rw s (simp chosen (closed-is place token (tokensFrom (place + length token + 1) [] text) e))
+      ∙ rw s (simp chosen (closed-number place token (tokensFrom (place + length token + 1) [] text) e))
 
 pub holds-says : {vs : List ℤ} {text : List ℕ} → Holds isSeparator numberOf vs text → (place : ℕ) → Says vs (tokensFrom place [] text)
 unfolding tokensBy closed

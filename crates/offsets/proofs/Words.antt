@@ -1,6 +1,7 @@
 -- Tokens by place.
 --     at-separator, at-end           a separator is passed over; beyond the end there are none
 --     digit-no-separator             no digit is a separator
+--     Clear, run-takes, closed-is    bytes that are no separators go into the run, and make one token where it is closed
 --     TokenAt, token-at              where a byte stands that is no separator, a token begins: its bytes, and the tokens after it
 --     finds-number, finds-other, finds-none          what is read at its first byte tells what it says
 --     first-none, first-number, first-other, first-no-number      the first token from a place on
@@ -83,20 +84,18 @@ unfolding tokensBy closed
 run-ends place run nothing = refl
 run-ends place run (separated e) = rw e (simp chosen)
 
--- a run takes the whole word that follows it
-module _ (b : ℕ) (text : List ℕ) (place : ℕ) (run : List ℕ) where
-  goes-on : (t : Bool) → isSeparator b ≡ t
-      → tokensFrom (place + 1) (run ++ b ∷ []) text ≡ tokensFrom (place + 1 + length (word text)) ((run ++ b ∷ []) ++ word text) (beyond text)
-      → tokensFrom place run (b ∷ text) ≡ tokensFrom (place + length (if t then [] else b ∷ word text)) (run ++ (if t then [] else b ∷ word text)) (if t then b ∷ text else beyond text)
-  goes-on true e h = simp (chosen, append-nil, add-zero)
-  goes-on false e h =
-      simp chosen
-      (unfold tokensBy in (rw e (simp chosen (h ∙ rw append-assoc (ap (λ k. tokensFrom k (run ++ b ∷ word text) (beyond text)) (omega arith))))))
+-- bytes that are no separators go into the run
+pub run-takes : {w : List ℕ} → Clear w → (place : ℕ) (run rest : List ℕ) → tokensFrom place run (w ++ rest) ≡ tokensFrom (place + length w) (run ++ w) rest
+unfolding tokensBy
+run-takes none place run rest = simp (add-zero, append-nil)
+run-takes (more {b = b} {l = l} e c) place run rest =
+    let end : place + 1 + length l ≡ place + suc (length l) = omega arith in
+    rw e (simp chosen (run-takes c (place + 1) (run ++ b ∷ []) rest ∙ rw (end, append-assoc run (b ∷ []) l)))
 
-run-goes-on : (text : List ℕ) (place : ℕ) (run : List ℕ) → tokensFrom place run text ≡ tokensFrom (place + length (word text)) (run ++ word text) (beyond text)
-unfolding word beyond
-run-goes-on [] place run = simp (append-nil, add-zero)
-run-goes-on (b ∷ text) place run = goes-on b text place run (isSeparator b) refl (run-goes-on text (place + 1) (run ++ b ∷ []))
+pub closed-is : (place : ℕ) (run : List ℕ) (rest : List Token) → 0 < length run → closed isSeparator numberOf (place + length run) run rest ≡ said place (numberOf run) ∷ rest
+unfolding closed
+closed-is place [] rest h = absurd (omega arith)
+closed-is place (b ∷ run) rest h = let start : place + suc (length run) - suc (length run) ≡ place = omega arith in rw start
 
 -- ---- the token at a place
 pub record TokenAt (text : List ℕ) (at : ℕ) : Type 0 where
@@ -124,11 +123,12 @@ module _ (text : List ℕ) (at b : ℕ) (l : List ℕ) (d : drop at text ≡ b �
   taken : tokensFrom (at + 1) (b ∷ []) l ≡ tokensFrom (at + length here) here (beyond l)
   taken =
       let place : at + 1 + length (word l) ≡ at + length here = omega arith in
-      run-goes-on l (at + 1) (b ∷ []) ∙ ap (λ k. tokensFrom k here (beyond l)) place
+      ap (tokensFrom (at + 1) (b ∷ [])) (sym (both l)) ∙ run-takes (clear-word l) (at + 1) (b ∷ []) (beyond l)
+      ∙ ap (λ k. tokensFrom k here (beyond l)) place
 
   shut : closed isSeparator numberOf (at + length here) here (tokensFrom (at + length here) [] (beyond l)) ≡ said at (numberOf here) ∷ tokensAt text (at + length here)
-  unfolding closed tokensAt
-  shut = let back : at + length here - length here ≡ at = omega arith in rw (back, after)
+  unfolding tokensAt
+  shut = closed-is at here (tokensFrom (at + length here) [] (beyond l)) (omega arith) ∙ rw after
 
   begun : TokenAt text at
   begun = record {
