@@ -3,7 +3,7 @@
 --     padded                               within nine digits, zeros in front change nothing that digits say, after a minus or none
 --     number-padded, minus-padded          so a token says the same number with zeros in front of its digits
 --     minus-zeros                          a minus with only zeros says none, however many
---     beyond-nine                          digits beyond the ninth say none, zeros or not
+--     beyond-nine, minus-beyond-nine       digits beyond the ninth say none, zeros or not
 -- Assumes nothing.
 use Prim.Native.Nat.{ℕ, zero, suc, _+_, _≤_, _<_}
 use mathlib.Core.Bool.{Bool, true, false, and-false}
@@ -30,9 +30,6 @@ pub all-of-zeros : (k : ℕ) (digits : List ℕ) → allDigits (zerosBefore k di
 unfolding allDigits isDigit
 all-of-zeros zero digits = refl
 all-of-zeros (suc k) digits = all-of-zeros k digits
-
-pub beyond-nine : (sign : Bool) (digits : List ℕ) → mostDigits < length digits → saidBy sign digits ≡ Not
-beyond-nine sign digits h = said-not sign digits (unfold isWhole in rw (lt-leb _ _ h, and-false))
 
 module _ (k : ℕ) (digits : List ℕ) (some : 1 ≤ length digits) (few : k + length digits ≤ mostDigits) where
   pub whole-padded : isWhole (zerosBefore k digits) ≡ isWhole digits
@@ -62,3 +59,14 @@ unfolding valueFrom
 minus-zeros k =
     let none : value (replicate k zeroDigit) ≡ 0 = ap value (sym (append-nil (replicate k zeroDigit))) ∙ value-of-zeros k [] in
     number-of-minus (replicate k zeroDigit) ∙ said-zero (replicate k zeroDigit) none
+
+module _ (digits : List ℕ) (many : mostDigits < length digits) where
+  not-whole : isWhole digits ≡ false
+  unfolding isWhole
+  not-whole = rw (lt-leb _ _ many) (simp and-false)
+
+  pub beyond-nine : (getD digits 0 0 ≡ minus → ⊥) → numberOf digits ≡ Not
+  beyond-nine plain = number-of-plain digits plain ∙ said-not false digits not-whole
+
+  pub minus-beyond-nine : numberOf (minus ∷ digits) ≡ Not
+  minus-beyond-nine = number-of-minus digits ∙ said-not true digits not-whole

@@ -1,6 +1,5 @@
 -- What the digits from a place of a text say, and the number at a place.
---     part-is                                         the digits, as a part of the text
---     said-from-is, said-from-not, said-from-zero     what they say, as the machine holds it
+--     said-from-is, said-from-not, said-from-zero     what they say, by their count and value, as the machine holds it
 --     numeral-past, numeral-within                    the number at a place: none beyond the end; else what the digits say, after a minus or none
 -- Assumes nothing.
 use Prim.Native.Nat.{ℕ, suc, _+_, _-_, _^_, _≤_, _<_}
@@ -13,41 +12,45 @@ use borrow.Author.Tests.{eqb-true, eqb-false}
 use lib.Dec.{eqb}
 use lib.IntN.{ℤ}
 use lib.Signed.{mag}
-use lib.ListN.{length, take, drop, getD, drop-of-length-le}
+use lib.ListN.{length, drop, getD, drop-of-length-le}
 use lib.Seq.{getD-drop}
 use mir.Val.{boolByte}
 use Rattle.arithmetic.specs.Signed.{nearest}
 use Rattle.arithmetic.proofs.Crossing.{back, mag-le, nearest-back, nearest-of-small}
 use Rattle.arithmetic.proofs.Parts.{drop-step}
-use Rattle.numerals.specs.Number.{minus, isWhole, value, numberOf}
+use Rattle.numerals.specs.Number.{minus, isDigitCount, isWhole, value, numberOf}
 use Rattle.numerals.specs.Front.{enoughDigits, front, endsAt, numeralAt}
 use Rattle.numerals.specs.Private.Sign.{withSign, saidBy, digitsFrom, saidFrom, DigitsFrom}
 use Rattle.numerals.specs.declared.reading.Digits.{Digits}
 use Rattle.numerals.specs.declared.reading.Number.the-variants.{Is, Not}
 use Rattle.numerals.specs.declared.reading.Numeral.the-variants.{Ends, None}
-use Rattle.numerals.proofs.Wholes.{first-not-minus}
+use Rattle.numerals.proofs.Wholes.{first-not-minus, whole-by-count}
 use Rattle.numerals.proofs.Numbers.{number-of-minus, number-of-plain, said-is, said-not, said-zero, said-lt}
-use Rattle.numerals.proofs.Fronts.{digits-prefix, all-of-digits, front-of-minus, front-of-plain}
+use Rattle.numerals.proofs.Fronts.{all-of-digits, front-of-minus, front-of-plain}
 
 module _ {text : List ℕ} {from : ℕ} {r : Digits} (d : DigitsFrom text from r) where
-  pub part-is : take (r .stop - from) (drop from text) ≡ digitsFrom text from
-  part-is =
-      let count : r .stop - from ≡ length (digitsFrom text from) = omega (arith, d .stop-is) in
-      rw count (sym (digits-prefix enoughDigits (drop from text)))
+  -- so many digits were found
+  abbrev count : ℕ
+  count = r .stop - from
+
+  whole-counted : isWhole (digitsFrom text from) ≡ isDigitCount count
+  whole-counted =
+      let many : count ≡ length (digitsFrom text from) = omega (arith, d .stop-is) in
+      rw many (whole-by-count (digitsFrom text from) (all-of-digits enoughDigits (drop from text)))
 
   not-said : (sign : Bool) → saidBy sign (digitsFrom text from) ≡ Not → None ≡ saidFrom text from sign
   unfolding saidFrom endsAt
   not-said sign e = rw e
 
-  pub said-from-not : (sign : Bool) → isWhole (take (r .stop - from) (drop from text)) ≡ false → None ≡ saidFrom text from sign
-  said-from-not sign e = not-said sign (said-not sign (digitsFrom text from) (sym (ap isWhole part-is) ∙ e))
+  pub said-from-not : (sign : Bool) → isDigitCount count ≡ false → None ≡ saidFrom text from sign
+  said-from-not sign e = not-said sign (said-not sign (digitsFrom text from) (whole-counted ∙ e))
 
   pub said-from-zero : r .value ≡ 0 → None ≡ saidFrom text from true
   said-from-zero z = not-said true (said-zero (digitsFrom text from) (sym (d .value-is) ∙ z))
 
   pub said-from-is :
       (sign : Bool)
-      → isWhole (take (r .stop - from) (drop from text)) ≡ true
+      → isDigitCount count ≡ true
       → (sign ≡ true → r .value ≡ 0 → ⊥)
       → {v : ℤ}
       → v ≡ nearest (withSign sign (r .value))
@@ -56,8 +59,7 @@ module _ {text : List ℕ} {from : ℕ} {r : Digits} (d : DigitsFrom text from r
   said-from-is sign e some {v} n =
       let digits = digitsFrom text from in
       let z = withSign sign (value digits) in
-      let whole = sym (ap isWhole part-is) ∙ e in
-      let says : saidBy sign digits ≡ Is z = said-is sign digits whole (λ t o. some t (d .value-is ∙ o)) in
+      let says : saidBy sign digits ≡ Is z = said-is sign digits (whole-counted ∙ e) (λ t o. some t (d .value-is ∙ o)) in
       let held : v ≡ nearest z = n ∙ ap (λ k. nearest (withSign sign k)) (d .value-is) in
       let small : mag z < 2 ^ 63 = omega (arith, mag-le z, said-lt sign digits says) in
       rw says (ap₂ Ends (nearest-back z held ∙ nearest-of-small z small) (d .stop-is))

@@ -6,10 +6,10 @@
 --     value-step                          one digit more
 --     value-lt                            k digits make a number below 10 ^ k
 --     Whole, whole-is, is-whole           the parts of a whole number, from the test and back
---     whole-of-none, whole-of-some        the test, by the count of digits
+--     whole-by-count                      the test, by the count of digits
 -- Assumes nothing.
 use Prim.Native.Nat.{ℕ, zero, suc, _+_, _-_, _*_, _^_, _≤_, _<_}
-use mathlib.Core.Bool.{true, false}
+use mathlib.Core.Bool.{true}
 use mathlib.Core.Path.{_≡_, refl, _∙_}
 use mathlib.Core.List.{List, [], _∷_, _++_}
 use native.Mathlib.Nat.{pow-succ', pow-zero, mul-le-mul-right, mul-assoc, lt-of-lt-of-le}
@@ -17,7 +17,7 @@ use native.Mathlib.Omega.{arith}
 use borrow.Author.Tests.{le-leb, leb-true}
 use lib.Dec.{leb}
 use lib.ListN.{length, getD}
-use Rattle.numerals.specs.Number.{minus, zeroDigit, isDigit, allDigits, valueFrom, value, mostDigits, isWhole}
+use Rattle.numerals.specs.Number.{minus, zeroDigit, isDigit, allDigits, valueFrom, value, mostDigits, isDigitCount, isWhole}
 use Rattle.arithmetic.proofs.Tests.{both}
 
 pub digit-range : (b : ℕ) → isDigit b ≡ true → (zeroDigit ≤ b) × (b ≤ zeroDigit + 9)
@@ -89,16 +89,10 @@ is-whole l w = rw (w .all, le-leb _ _ (w .some), le-leb _ _ (w .few))
 pub whole-is : (l : List ℕ) → isWhole l ≡ true → Whole l
 unfolding isWhole
 whole-is l e =
-    let t = both _ (leb (length l) mostDigits) e in
-    let u = both (allDigits l) (leb 1 (length l)) (t .0) in
-    record { all = u .0; some = leb-true _ _ (u .1); few = leb-true _ _ (t .1) }
+    let t = both (allDigits l) (isDigitCount (length l)) e in
+    let u = both (leb 1 (length l)) (leb (length l) mostDigits) (t .1) in
+    record { all = t .0; some = leb-true _ _ (u .0); few = leb-true _ _ (u .1) }
 
--- ---- digits are whole by their count
-module _ (l : List ℕ) (e : allDigits l ≡ true) where
-  pub whole-of-none : length l ≡ 0 → isWhole l ≡ false
-  unfolding isWhole
-  whole-of-none h = rw (e, h)
-
-  pub whole-of-some : 1 ≤ length l → isWhole l ≡ leb (length l) mostDigits
-  unfolding isWhole
-  whole-of-some h = rw (e, le-leb _ _ h)
+pub whole-by-count : (l : List ℕ) → allDigits l ≡ true → isWhole l ≡ isDigitCount (length l)
+unfolding isWhole
+whole-by-count l e = rw e

@@ -36,8 +36,11 @@ value digits = valueFrom 0 digits
 abbrev pub mostDigits : ℕ
 mostDigits = 9
 
+abbrev pub isDigitCount : ℕ → Bool
+isDigitCount count = leb 1 count && leb count mostDigits
+
 unfoldable pub isWhole : List ℕ → Bool
-isWhole digits = allDigits digits && leb 1 (length digits) && leb (length digits) mostDigits
+isWhole digits = allDigits digits && isDigitCount (length digits)
 
 -- "an optional minus", and no number 0 after it, however many zeros
 unfoldable pub numberOf : List ℕ → Number

@@ -1,10 +1,9 @@
 // Reading: an optional minus, the digits after it, and whether they make a number.
 // The bytes are passed over once; the first alone is looked at again, for a minus.
-ghost use mathlib.Core.Bool.{true};
 ghost use mathlib.Core.Path.{_≡_};
 ghost use Prim.Native.Nat.{_≤_, min};
 ghost use lib.ListN.{length};
-ghost use Rattle.numerals.specs.Number.{isDigit, allDigits, isWhole, numberOf};
+ghost use Rattle.numerals.specs.Number.{isDigit, isDigitCount, numberOf};
 ghost use Rattle.numerals.specs.Front.{numeralAt};
 ghost use Rattle.numerals.specs.Private.Sign.{saidFrom, DigitsFrom};
 
@@ -64,7 +63,7 @@ fn said_from(text: &[u8], from: usize, minus: bool) -> Numeral
     let digits = digits_from(text, from);
     let value = digits.value;
     let stop = digits.stop;
-    if !is_whole(&text[from..stop]) {
+    if !is_digit_count(stop - from) {
         return Numeral::None;
     }
     if minus {
@@ -101,12 +100,10 @@ fn digits_from(text: &[u8], from: usize) -> Digits
     Digits { value, stop }
 }
 
-// Whether digits make a whole number: one to nine of them.
-fn is_whole(digits: &[u8]) -> bool
-    requires { ⌜ allDigits (now digits) ≡ true ⌝ }
-    ensures { λ r. ⌜ r ≡ isWhole (now (digits .entry)) ⌝ }
+// Whether a number may have so many digits: one to nine.
+fn is_digit_count(count: usize) -> bool
+    ensures { λ r. ⌜ r ≡ isDigitCount count ⌝ }
 {
-    let count = digits.len();
     if count == 0 {
         return false;
     }
