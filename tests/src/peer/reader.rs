@@ -74,7 +74,7 @@ struct Tokens<'a> {
 }
 
 fn is_separator(byte: u8) -> bool {
-    byte == b' ' || byte == b'\n'
+    matches!(byte, b' ' | b'\n' | b'\t' | b'\r')
 }
 
 impl Tokens<'_> {
@@ -104,8 +104,8 @@ impl Tokens<'_> {
             at += 1;
         };
         let digits = at - first_digit;
-        let leading_zero = text.get(first_digit) == Some(&b'0') && (digits > 1 || negative);
-        if !ends || digits == 0 || digits > MOST_DIGITS || leading_zero {
+        let minus_zero = negative && magnitude == 0;
+        if !ends || digits == 0 || digits > MOST_DIGITS || minus_zero {
             return refuse(refusals::NO_NUMBER, place);
         }
         self.next = at;

@@ -62,9 +62,14 @@ fn metacentre_too_high() {
 fn shortest_refused_files() {
     let refusal = |text: &[u8]| read(text, &mut [0; 861], &mut [0; 128], &mut [0; 128]);
     assert_eq!(refusal(b""), refused(5, 0));
-    assert_eq!(refusal(b"05"), refused(2, 0));
     assert_eq!(refusal(b"6"), refused(3, 0));
     assert_eq!(refusal(b"-0"), refused(2, 0));
+    assert_eq!(refusal(b"-000"), refused(2, 0));
+    assert_eq!(refusal(b"-01"), refused(3, 0));
+    assert_eq!(refusal(b"05"), refused(5, 2));
+    assert_eq!(refusal(b"000000005"), refused(5, 9));
+    assert_eq!(refusal(b"0000000005"), refused(2, 0));
+    assert_eq!(refusal(b"\t5\r\n"), refused(5, 4));
 }
 
 #[test]
@@ -73,11 +78,24 @@ fn least_gm() {
     assert!(!passes(149, Heel::Upright));
 }
 
+fn assert_sample_sheet(text: &str) {
+    let mut room = [0; 3_173];
+    let length = report(text.as_bytes(), &mut room).expect("the room is long enough");
+    assert_eq!(std::str::from_utf8(&room[..length]), Ok(SAMPLE_SHEET));
+}
+
 #[test]
 fn sample_sheet() {
-    let mut room = [0; 3_173];
-    let length = report(SAMPLE_FILE.as_bytes(), &mut room).expect("the room is long enough");
-    assert_eq!(std::str::from_utf8(&room[..length]), Ok(SAMPLE_SHEET));
+    assert_sample_sheet(SAMPLE_FILE);
+}
+
+#[test]
+fn sample_sheet_from_other_editors() {
+    assert_sample_sheet(&SAMPLE_FILE.replace('\n', "\r\n"));
+    assert_sample_sheet(&SAMPLE_FILE.replace(' ', "\t"));
+    assert_sample_sheet(&SAMPLE_FILE.replace('\n', "\r").replace(' ', "\t0"));
+    let padded: String = SAMPLE_FILE.split_whitespace().map(|word| format!("{word:0>9}\r\n")).collect();
+    assert_sample_sheet(&padded);
 }
 
 #[test]
