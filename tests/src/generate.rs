@@ -2,11 +2,15 @@
 
 mod edges;
 mod hulls;
+mod layouts;
 mod loads;
 mod random;
 mod row_tables;
 mod tallies;
 mod texts;
+
+#[cfg(test)]
+mod trial_texts;
 
 use crate::calls::Tally;
 use crate::peer;
@@ -15,6 +19,7 @@ use crate::peer::tally::SLOTS;
 use crate::step::Step;
 use edges::{damage_number, damage_records, damage_size, edge};
 use hulls::Hull;
+pub use layouts::{MOST_DIGITS, SEPARATORS};
 use random::{mixed, Random};
 
 /// Rooms that are never too short.

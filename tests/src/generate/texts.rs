@@ -1,31 +1,34 @@
 //! Texts of offset files in many layouts, damaged by the word, by the byte and in length.
 
+use super::layouts::{put_padded, Layout, MOST_DIGITS, SEPARATORS};
 use super::random::Random;
 use super::FileNumbers;
 use crate::peer::ranges::{Range, HALF_BREADTH, ITEM, MOST_ITEMS, MOST_TANKS, PARTICULARS, TANK};
 
 const LONGEST_FILE: usize = 16_384;
+/// Widths that leave a padded number none: one digit too many, mostly.
+const TOO_MANY_DIGITS: [usize; 4] = [MOST_DIGITS + 1, MOST_DIGITS + 1, MOST_DIGITS + 2, 20];
 
-/// Tokens that are no number, or just are one.
-const ODD_TOKENS: [&[u8]; 36] = [
-    b"05",
-    b"-0",
-    b"-",
-    b"--1",
-    b"+1",
+/// Tokens that just are a number, then those that are none.
+const ODD_TOKENS: [&[u8]; 47] = [
     b"00",
-    b"-00",
+    b"05",
+    b"010",
     b"-01",
-    b"5-",
-    b"1-1",
-    b"0x5",
-    b"5.0",
-    b"5,0",
-    b"5e0",
-    b"000000001",
+    b"-08",
+    b"000000000",
+    b"000000005",
     b"-000000001",
     b"999999999",
     b"-999999999",
+    b"-",
+    b"-0",
+    b"-00",
+    b"-000000000",
+    b"-0000000000",
+    b"0000000000",
+    b"0000000005",
+    b"-0000000005",
     b"1000000000",
     b"1234567890",
     b"-1234567890",
@@ -33,17 +36,28 @@ const ODD_TOKENS: [&[u8]; 36] = [
     b"9223372036854775808",
     b"18446744073709551616",
     b"18446744073709551621",
-    b"\t",
-    b"\t5",
-    b"5\t",
-    b"5\r",
-    b"\r",
+    b"--1",
+    b"+1",
+    b"5-",
+    b"1-1",
+    b"00-1",
+    b"00000000-1",
+    b"0x5",
+    b"5.0",
+    b"5,0",
+    b"5e0",
+    b"/:",
     b"\0",
     b"5\0",
+    b"\x085",
+    b"\x0b",
     b"\x0b5",
+    b"5\x0b",
+    b"\x0c5",
+    b"5\x0c",
+    b"5\x0e",
     b"\xff",
     b"\xc2\xa0",
-    b"/:",
 ];
 
 /// A number of the file with the range it must keep, or the bytes that stand instead of it.
@@ -100,12 +114,13 @@ fn damage_word(random: &mut Random, words: &mut Vec<Word>) {
     let among = if random.one_in(3) { words.len().min(7) } else { words.len() };
     let at = random.index(among);
     let Range { least, greatest } = words[at].range;
-    match random.below(10) {
+    match random.below(11) {
         0..=2 => words[at].instead = Some(odd_token(random)),
         3..=5 => words[at].number = random.pick(&[least - 1, least, greatest, greatest + 1, -greatest]),
         6 => words[at].number = random.between(-999_999_999, 999_999_999),
         7 => drop(words.remove(at)),
         8 => words.insert(at, Word { number: random.between(0, 40), range: words[at].range, instead: None }),
+        9 => words[at].instead = Some(padded_too_far(random, words[at].number)),
         _ => {
             let instead = if random.one_in(2) { Some(odd_token(random)) } else { None };
             words.push(Word { number: random.between(-5, 5), range: words[at].range, instead });
@@ -121,57 +136,36 @@ fn odd_token(random: &mut Random) -> Vec<u8> {
     random.pick(&ODD_TOKENS).to_vec()
 }
 
+fn padded_too_far(random: &mut Random, number: i64) -> Vec<u8> {
+    let mut token = Vec::new();
+    put_padded(&mut token, number, random.pick(&TOO_MANY_DIGITS));
+    token
+}
+
+/// Often one that stands in numbers or separates them, or a neighbour of those.
 fn any_byte(random: &mut Random) -> u8 {
     if random.one_in(2) {
-        random.pick(b"0123456789- \n\t\r+")
+        random.pick(b"0123456789- \n\t\r\x0b\x0c+")
     } else {
         random.next() as u8
     }
 }
 
-/// One space between words, or spaces and line feeds in any number, also first and last.
 fn laid_out(random: &mut Random, words: &[Word]) -> Vec<u8> {
-    let loose = random.one_in(2);
+    let layout = Layout::any(random);
     let mut text = Vec::with_capacity(8 * words.len() + 8);
-    if loose && random.one_in(2) {
-        separate(random, &mut text);
-    }
+    layout.put_margin(random, &mut text);
     for (i, word) in words.iter().enumerate() {
-        if i > 0 && loose {
-            separate(random, &mut text);
-        } else if i > 0 {
-            text.push(b' ');
+        if i > 0 {
+            layout.put_gap(random, &mut text);
         }
         match &word.instead {
             Some(bytes) => text.extend(bytes),
-            None => put_number(&mut text, word.number),
+            None => layout.put_number(random, &mut text, word.number),
         }
     }
-    if loose && random.one_in(2) {
-        separate(random, &mut text);
-    }
+    layout.put_margin(random, &mut text);
     text
-}
-
-fn separate(random: &mut Random, text: &mut Vec<u8>) {
-    let drawn = random.next();
-    for bit in 0..1 + (drawn >> 60) % 3 {
-        text.push(if drawn >> bit & 1 == 0 { b' ' } else { b'\n' });
-    }
-}
-
-fn put_number(text: &mut Vec<u8>, number: i64) {
-    if number < 0 {
-        text.push(b'-');
-    }
-    let start = text.len();
-    let mut rest = number.unsigned_abs();
-    while rest > 9 {
-        text.push(b'0' + (rest % 10) as u8);
-        rest /= 10;
-    }
-    text.push(b'0' + rest as u8);
-    text[start..].reverse();
 }
 
 fn damage_bytes(random: &mut Random, text: &mut Vec<u8>) {
@@ -193,9 +187,9 @@ fn damage_bytes(random: &mut Random, text: &mut Vec<u8>) {
 fn lengthen(random: &mut Random, text: &mut Vec<u8>) {
     let beyond = LONGEST_FILE + random.index(LONGEST_FILE);
     let length = random.pick(&[LONGEST_FILE - 1, LONGEST_FILE, LONGEST_FILE, LONGEST_FILE + 1, beyond]);
-    let inside = text.iter().position(|&byte| byte == b' ').unwrap_or(0);
+    let inside = text.iter().position(|byte| SEPARATORS.contains(byte)).unwrap_or(0);
     let at = random.pick(&[0, inside, text.len()]);
-    let separator = random.pick(b" \n");
+    let separator = random.pick(&SEPARATORS);
     let missing = length.saturating_sub(text.len());
     text.splice(at..at, std::iter::repeat_n(separator, missing));
 }
@@ -205,8 +199,8 @@ fn rubbish(random: &mut Random) -> Vec<u8> {
     let length = random.index(40);
     match random.below(4) {
         0 => Vec::new(),
-        1 => (0..length).map(|_| random.pick(b" \n")).collect(),
-        2 => (0..length).map(|_| random.pick(b"0123456789 \n-")).collect(),
+        1 => (0..length).map(|_| random.pick(&SEPARATORS)).collect(),
+        2 => (0..length).map(|_| random.pick(b"0123456789 \n\t\r-")).collect(),
         _ => (0..length).map(|_| random.next() as u8).collect(),
     }
 }
