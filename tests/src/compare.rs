@@ -4,6 +4,7 @@ mod history;
 mod observation;
 mod outcomes;
 mod round_trip;
+mod spellings;
 
 use crate::calculation::{LIBRARY, PEER};
 use crate::generate::{Call, Case};

@@ -1,6 +1,7 @@
 //! Counts of outcomes by call, and what the papers let come out that never did.
 
 use super::observation::Observation;
+use super::spellings::{in_text, in_token, IN_TEXTS, IN_TOKENS};
 use crate::calls::Tally;
 use crate::generate::Call;
 use crate::peer::condition::PRESSED_UP;
@@ -15,6 +16,7 @@ const CALLS: [&str; 10] =
 const REPORT: usize = 0;
 const CONDITION: usize = 5;
 const ABOARD: usize = 9;
+const NO_NUMBER: usize = 2;
 /// The refusals the papers let each call give; the report's own is 14, the others are its sheet's E lines.
 const ALLOWED: [&[usize]; 10] = [
     &[1, 2, 3, 4, 5, 6, 8, 9, 11, 12, 13, 14],
@@ -75,7 +77,8 @@ const FILLINGS: [&str; 5] = ["empty", "slack", "at 98 per cent", "above it", "fu
 const STATES: [&str; 4] = ["empty", "full", "with another mark than 1", "with something in an empty slot"];
 
 /// What came out of one call: 0 or the refusal's number, how the vessel lies where that was found, how many of the
-/// condition's tanks are filled how, and in which states the tally was that a step was answered on.
+/// condition's tanks are filled how, in which states the tally was that a step was answered on, and what editors left in
+/// the text that was read or in its token that is no number.
 pub struct Outcome {
     call: usize,
     refusal: usize,
@@ -83,6 +86,8 @@ pub struct Outcome {
     lies: Option<(usize, usize)>,
     fillings: [u64; FILLINGS.len()],
     states: [bool; STATES.len()],
+    in_text: [bool; IN_TEXTS.len()],
+    in_token: [bool; IN_TOKENS.len()],
 }
 
 impl Outcome {
@@ -94,6 +99,8 @@ impl Outcome {
             lies: None,
             fillings: Default::default(),
             states: Default::default(),
+            in_text: Default::default(),
+            in_token: Default::default(),
         };
         if seen.number == 0 {
             match call {
@@ -104,8 +111,12 @@ impl Outcome {
                 }
                 Call::Aboard { .. } => outcome.take_condition(seen),
                 Call::Step { tally, .. } => outcome.states = states(tally),
+                Call::Read { text, .. } => outcome.in_text = in_text(text),
                 _ => {}
             }
+        }
+        if let (Call::Read { text, .. }, NO_NUMBER) = (call, outcome.refusal) {
+            outcome.in_token = in_token(text, seen.place);
         }
         outcome
     }
@@ -173,6 +184,8 @@ pub struct Outcomes {
     places: BTreeSet<(usize, usize, usize)>,
     fillings: [u64; FILLINGS.len()],
     states: [u64; STATES.len()],
+    in_texts: [u64; IN_TEXTS.len()],
+    in_tokens: [u64; IN_TOKENS.len()],
 }
 
 impl Outcomes {
@@ -189,9 +202,9 @@ impl Outcomes {
         for (all, here) in self.fillings.iter_mut().zip(outcome.fillings) {
             *all += here;
         }
-        for (all, here) in self.states.iter_mut().zip(outcome.states) {
-            *all += u64::from(here);
-        }
+        count(&mut self.states, outcome.states);
+        count(&mut self.in_texts, outcome.in_text);
+        count(&mut self.in_tokens, outcome.in_token);
     }
 
     pub fn print(&self) {
@@ -201,6 +214,8 @@ impl Outcomes {
         print_group(&VERDICTS, &self.verdicts);
         println!("tanks of conditions: {}", listed(&FILLINGS, &self.fillings));
         println!("tallies of answered steps: {}", listed(&STATES, &self.states));
+        println!("texts read with {}", listed(&IN_TEXTS, &self.in_texts));
+        println!("tokens that are no number with {}", listed(&IN_TOKENS, &self.in_tokens));
         for (call, name) in CALLS.iter().enumerate() {
             let seen = ALLOWED[call].iter().filter(|&&refusal| self.refusals[call][refusal] > 0).count();
             println!("{name}: refusals allowed {:?}, {seen} of {} seen", ALLOWED[call], ALLOWED[call].len());
@@ -229,8 +244,17 @@ impl Outcomes {
         }
         missing.extend(never("tank", &FILLINGS, &self.fillings));
         missing.extend(never("tally", &STATES, &self.states));
+        missing.extend(never("text read", &IN_TEXTS, &self.in_texts));
+        missing.extend(never("token that is no number", &IN_TOKENS, &self.in_tokens));
         missing.iter().for_each(|line| println!("NOT AS THE PAPER ALLOWS: {line}"));
         missing.is_empty()
+    }
+}
+
+/// Counts what holds.
+fn count<const N: usize>(counts: &mut [u64; N], holds: [bool; N]) {
+    for (count, holds) in counts.iter_mut().zip(holds) {
+        *count += u64::from(holds);
     }
 }
 
