@@ -6,7 +6,7 @@ pub const IN_TEXTS: [&str; 5] =
     ["a tab", "a carriage return", "a padded number", "a padded negative number", "a number padded to nine digits"];
 pub const IN_TOKENS: [&str; 4] = [
     "a minus before zeros alone",
-    "zeros beyond nine digits",
+    "ten digits with zeros in front",
     "a vertical tab beside digits",
     "a form feed beside digits",
 ];
@@ -23,15 +23,16 @@ pub fn in_text(text: &[u8]) -> [bool; IN_TEXTS.len()] {
     ]
 }
 
-/// Which of these the token at a place has that is no number.
+/// Which of these the token at a place has that is no number, where nothing else keeps it from being one.
 pub fn in_token(text: &[u8], place: usize) -> [bool; IN_TOKENS.len()] {
     let token = tokens(&text[place..]).next().unwrap_or_default();
     let digits = digits(token);
     let zeros = digits.iter().take_while(|&&byte| byte == b'0').count();
+    let minus_zero = is_negative(token) && zeros == digits.len();
     let parted_by = |byte| token.contains(&byte) && token.split(|&other| other == byte).all(are_few_digits);
     [
-        is_padded(token) && is_negative(token) && zeros == digits.len() && zeros <= MOST_DIGITS,
-        is_padded(token) && digits.len() > MOST_DIGITS && are_few_digits(&digits[zeros..]),
+        is_padded(token) && minus_zero && digits.len() <= MOST_DIGITS,
+        is_padded(token) && !minus_zero && digits.len() == MOST_DIGITS + 1 && are_few_digits(&digits[zeros..]),
         parted_by(b'\x0b'),
         parted_by(b'\x0c'),
     ]
