@@ -50,7 +50,8 @@ uint64_t rugulosca_report(const uint8_t *text, size_t text_length,
                           uint8_t *room, size_t room_length,
                           size_t *count, size_t *place);
 
-/* Reads an offset file. `summary`: the five particulars, the count of items, the count of tanks. */
+/* Reads an offset file: numbers of up to nine digits, leading zeros counted, between spaces, tabs and line ends.
+ * `summary`: the five particulars, the count of items, the count of tanks. */
 uint64_t rugulosca_read(const uint8_t *text, size_t text_length,
                         uint64_t *half_breadths, size_t half_breadths_length,
                         int64_t *items, size_t items_length,
