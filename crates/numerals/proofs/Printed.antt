@@ -4,7 +4,7 @@
 --     printed-injective                   two numbers are never printed alike
 --     some-of-printed, length-of-printed  at least one byte, and at most k and a minus where the number is k digits long
 -- Assumes nothing.
-use Prim.Native.Nat.{ℕ, zero, suc, _+_, _^_, _≤_, _<_}
+use Prim.Native.Nat.{ℕ, suc, _+_, _^_, _≤_, _<_}
 use mathlib.Core.Bool.{true, false, false≢true}
 use mathlib.Core.Path.{_≡_, sym, ap, _∙_}
 use native.Mathlib.Omega.{arith}

@@ -1,7 +1,7 @@
 -- What a token says. "A run of other bytes is one token and must be a number: an optional minus, then 1 to 9 digits"; leading zeros
 -- are allowed within the nine, and "minus zero stays refused, as does minus with only zeros".
 use Prim.Native.Nat.{ℕ, _+_, _-_, _*_}
-use mathlib.Core.Bool.{Bool, true, false, not, _&&_}
+use mathlib.Core.Bool.{Bool, true, not, _&&_}
 use mathlib.Core.List.{List, [], _∷_}
 use lib.Dec.{leb, eqb}
 use lib.IntN.{pos, negℤ}

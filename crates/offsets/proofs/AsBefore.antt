@@ -3,7 +3,7 @@
 --     numberBefore                   "no leading zero unless the number is 0", and else a number as it is
 --     answered-as-before             a text that the reader answers by these is answered the same
 -- Assumes nothing.
-use mathlib.Core.Path.{_≡_, refl, sym, _∙_}
+use mathlib.Core.Path.{_≡_, _∙_}
 use mathlib.Core.Bool.{Bool, true, false, _||_}
 use mathlib.Core.List.{List, [], _∷_}
 use Prim.Native.Nat.{ℕ}

@@ -29,8 +29,9 @@ use Rattle.offsets.specs.declared.Summary.{Summary}
 use Rattle.offsets.specs.declared.Written.{Written}
 use Rattle.offsets.specs.declared.Written.the-variants.{Wrote}
 use Rattle.offsets.proofs.Answers.{on-file}
+use Rattle.offsets.proofs.FileIn.{file-in}
 use Rattle.offsets.proofs.RoundTrip.{contentsOf, written-is-read, read-is-written}
-use Rattle.offsets.proofs.Sound.{Sound, recordsIn, length-of-half-breadths, length-of-items, length-of-tanks, file-in}
+use Rattle.offsets.proofs.Sound.{Sound, recordsIn, length-of-half-breadths, length-of-items, length-of-tanks}
 use Rattle.offsets.proofs.Unique.{read-paper-injective, written-paper-injective}
 
 -- a reader that read contents answers and leaves them

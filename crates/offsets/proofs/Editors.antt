@@ -9,12 +9,11 @@ use mathlib.Core.Path.{_≡_, refl, sym, ap, _∙_}
 use mathlib.Core.Bool.{Bool, true, false}
 use mathlib.Core.List.{List, [], _∷_, _++_, append-nil}
 use Prim.Native.Nat.{ℕ}
-use borrow.Author.Tests.{eqb-true}
 use lib.Dec.{eqb}
 use lib.IntN.{ℤ}
 use lib.ListN.{length}
 use Rattle.arithmetic.specs.Choice.{if_then_else_}
-use Rattle.arithmetic.proofs.Choice.{chosen, if-either}
+use Rattle.arithmetic.proofs.Choice.{if-either}
 use Rattle.arithmetic.proofs.Tests.{never}
 use Rattle.numerals.specs.Number.{numberOf}
 use Rattle.numerals.specs.declared.reading.Number.{Number}
@@ -22,8 +21,9 @@ use Rattle.numerals.specs.declared.reading.Number.the-variants.{Is}
 use Rattle.ranges.specs.Outcome.{answered}
 use Rattle.offsets.specs.File.{Contents, file}
 use Rattle.offsets.specs.Tokens.{space, lineFeed, tab, carriageReturn, isSeparator, tokensBy, tokens}
-use Rattle.offsets.proofs.Layouts.{Says, says-same, Holds, nothing, separator, last, before, says-held, holds-says, clear-number}
-use Rattle.offsets.proofs.Sound.{Sound, numbersIn, file-of-said, file-in}
+use Rattle.offsets.proofs.FileIn.{file-in}
+use Rattle.offsets.proofs.Layouts.{says-same, Holds, nothing, separator, last, before, says-held, holds-says, clear-number}
+use Rattle.offsets.proofs.Sound.{Sound, numbersIn, file-of-said}
 use Rattle.offsets.proofs.Words.{Clear, none, more}
 
 -- what is read of a text

@@ -4,7 +4,7 @@
 --     says-held                      numbers that a text's tokens say are held by it
 --     holds-says                     numbers that a text holds are said by its tokens
 -- `Holds` and `says-held` are for any grammar: whichever bytes separate, and whatever a token says. Assumes nothing.
-use mathlib.Core.Path.{_≡_, refl, sym, ap, subst, _∙_}
+use mathlib.Core.Path.{_≡_, refl, sym, ap, _∙_}
 use mathlib.Core.Bool.{Bool, true, false}
 use mathlib.Core.List.{List, [], _∷_, _++_, append-assoc, append-nil}
 use Prim.Native.Nat.{ℕ, zero, suc, _+_, _-_, _<_}
@@ -12,11 +12,11 @@ use native.Mathlib.Omega.{arith}
 use lib.IntN.{ℤ}
 use lib.ListN.{length, getD}
 use Rattle.arithmetic.proofs.Choice.{chosen, if-either}
-use Rattle.numerals.specs.Number.{minus, numberOf}
+use Rattle.numerals.specs.Number.{numberOf}
 use Rattle.numerals.specs.declared.reading.Number.{Number}
-use Rattle.numerals.specs.declared.reading.Number.the-variants.{Is, Not}
+use Rattle.numerals.specs.declared.reading.Number.the-variants.{Is}
 use Rattle.numerals.proofs.Numbers.{every-byte, some-of-number}
-use Rattle.offsets.specs.Tokens.{Token, number, noNumber, isSeparator, said, closed, tokensBy, tokensFrom}
+use Rattle.offsets.specs.Tokens.{Token, number, isSeparator, said, closed, tokensBy, tokensFrom}
 use Rattle.offsets.proofs.Words.{Clear, none, more, digit-no-separator, run-takes, closed-is}
 
 pub data Says : List ℤ → List Token → Type 0 where

@@ -11,6 +11,7 @@ pub mod Layouts
 pub mod Spelled
 pub mod InRanges
 pub mod Sound
+pub mod FileIn
 pub mod Editors
 pub mod AsBefore
 pub mod Tried

@@ -6,15 +6,14 @@
 --     Short, short-take, short-drop        numbers of nine digits at the most, and parts of them
 --     line-spells, lines-spell             a line and the lines of a table spell their numbers
 -- Assumes nothing.
-use mathlib.Core.Path.{_≡_, refl, _∙_}
-use mathlib.Core.Bool.{true, false}
-use mathlib.Core.List.{List, [], _∷_, _++_, append-assoc, append-nil}
-use Prim.Native.Nat.{ℕ, zero, suc, _+_, _-_, _*_, _^_, _≤_, _<_}
-use native.Mathlib.Nat.{suc-mul, zero-mul, add-zero}
+use mathlib.Core.Path.{_≡_, refl}
+use mathlib.Core.Bool.{true}
+use mathlib.Core.List.{List, [], _∷_, _++_, append-assoc}
+use Prim.Native.Nat.{ℕ, zero, suc, _+_, _*_, _^_, _≤_, _<_}
+use native.Mathlib.Nat.{suc-mul, zero-mul}
 use native.Mathlib.Omega.{arith}
 use lib.IntN.{ℤ, natAbs}
-use lib.ListN.{length, take, drop, getD, length-append, length-take, length-drop, take-append-drop}
-use Rattle.arithmetic.proofs.Choice.{chosen}
+use lib.ListN.{length, take, drop, length-append, length-take, length-drop, take-append-drop}
 use Rattle.numerals.specs.Number.{mostDigits, numberOf}
 use Rattle.numerals.specs.Printed.{printed}
 use Rattle.numerals.proofs.Printed.{number-of-printed, length-of-printed}
