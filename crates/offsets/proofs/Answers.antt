@@ -1,6 +1,6 @@
 -- What the reader answers, and what it leaves in the tables.
 --     half-short, items-short, tanks-short, too-long      the refusals before the first token
---     on-file                                             past them, the reader answers what the file says
+--     past-sizes, on-file                                 past them, the reader answers what the file says
 --     file-refused                                        a refusal of the file
 --     sheet                                               a whole file, copied into the tables
 -- Assumes nothing.
@@ -29,6 +29,10 @@ use Rattle.offsets.specs.declared.Read.the-variants.{Sheet, Refused}
 use Rattle.offsets.specs.declared.reader.Parsed.{Parsed}
 use Rattle.offsets.specs.declared.reader.Parsed.the-variants as P
 
+pub past-sizes : (text : List ℕ) (h i t : ℕ) → roomForHalfBreadths ≤ h → roomForItems ≤ i → roomForTanks ≤ t → length text ≤ longestFile → readerOf text h i t ≡ file (length text) (tokens text)
+unfolding readerOf
+past-sizes text h i t half items tanks short = simp (le-ltb h roomForHalfBreadths half, le-ltb i roomForItems items, le-ltb t roomForTanks tanks, le-ltb longestFile (length text) short, chosen)
+
 module _ (text h₀ : List ℕ) (i₀ t₀ : List ℤ) where
   refusal : (number place : ℕ) → readerOf text (length h₀) (length i₀) (length t₀) ≡ refused number place → Reads text h₀ h₀ i₀ i₀ t₀ t₀ (Refused (record { number = number; place = place }))
   unfolding answerWith leftWith
@@ -50,8 +54,7 @@ module _ (text h₀ : List ℕ) (i₀ t₀ : List ℤ) where
 
   module _ (sized : Sized text h₀ i₀ t₀) where
     pub on-file : readerOf text (length h₀) (length i₀) (length t₀) ≡ file (length text) (tokens text)
-    unfolding readerOf
-    on-file = simp (le-ltb (length h₀) roomForHalfBreadths (sized .half-breadth-room), le-ltb (length i₀) roomForItems (sized .item-room), le-ltb (length t₀) roomForTanks (sized .tank-room), le-ltb longestFile (length text) (sized .text-length), chosen)
+    on-file = past-sizes text (length h₀) (length i₀) (length t₀) (sized .half-breadth-room) (sized .item-room) (sized .tank-room) (sized .text-length)
 
     module _ (hull half items tanks : List ℤ) (r : Parsed) (parses : Parses text hull half items tanks r) where
       pub file-refused : (f : Refusal) → r ≡ P.Refused f → Reads text h₀ h₀ i₀ i₀ t₀ t₀ (Refused f)

@@ -6,7 +6,7 @@
 use mathlib.Core.Path.{_≡_, _∙_}
 use mathlib.Core.Bool.{Bool, true, false, _||_}
 use mathlib.Core.List.{List, [], _∷_}
-use Prim.Native.Nat.{ℕ}
+use Prim.Native.Nat.{ℕ, _≤_}
 use native.Mathlib.Omega.{arith}
 use lib.Dec.{eqb}
 use lib.IntN.{ℤ}
@@ -16,11 +16,11 @@ use Rattle.numerals.specs.Number.{minus, zeroDigit, numberOf}
 use Rattle.numerals.specs.declared.reading.Number.{Number}
 use Rattle.numerals.specs.declared.reading.Number.the-variants.{Is, Not}
 use Rattle.ranges.specs.Outcome.{answered}
+use Rattle.ranges.specs.Sizes.{longestFile, roomForHalfBreadths, roomForItems, roomForTanks}
 use Rattle.offsets.specs.File.{Contents, file}
-use Rattle.offsets.specs.Private.Steps.{Sized}
 use Rattle.offsets.specs.Reader.{readerOf}
 use Rattle.offsets.specs.Tokens.{Token, space, lineFeed, isSeparator, tokensBy}
-use Rattle.offsets.proofs.Answers.{on-file}
+use Rattle.offsets.proofs.Answers.{past-sizes}
 use Rattle.offsets.proofs.Editors.{Stricter, answered-still}
 
 unfoldable pub separatedBefore : ℕ → Bool
@@ -52,6 +52,7 @@ stricter : Stricter separatedBefore numberBefore
 unfolding separatedBefore numberBefore isSeparator
 stricter = record { separators = λ b e. rw e; numbers = λ token. number-left (leadingZero (withoutMinus token)) }
 
-pub answered-as-before : (text h : List ℕ) (i t : List ℤ) (c : Contents) → Sized text h i t
-    → file (length text) (tokensBefore text) ≡ answered c → readerOf text (length h) (length i) (length t) ≡ answered c
-answered-as-before text h i t c sized e = on-file text h i t sized ∙ answered-still stricter text c e
+-- The reader's own tests, of room and length, stand before the first token, and are the same.
+pub answered-as-before : (text : List ℕ) (h i t : ℕ) (c : Contents) → roomForHalfBreadths ≤ h → roomForItems ≤ i → roomForTanks ≤ t → length text ≤ longestFile
+    → file (length text) (tokensBefore text) ≡ answered c → readerOf text h i t ≡ answered c
+answered-as-before text h i t c half items tanks short e = past-sizes text h i t half items tanks short ∙ answered-still stricter text c e

@@ -26,22 +26,22 @@ use Rattle.offsets.proofs.Layouts.{says-same, Holds, nothing, separator
 use Rattle.offsets.proofs.Sound.{Sound, numbersIn, file-of-said}
 use Rattle.offsets.proofs.Words.{Clear, none, more}
 
--- what is read of a text
-abbrev pub readFrom : List ℕ → Contents → Type 0
-readFrom text c = file (length text) (tokens text) ≡ answered c
+-- a text is read as these contents
+abbrev pub ReadAs : List ℕ → Contents → Type 0
+ReadAs text c = file (length text) (tokens text) ≡ answered c
 
--- a text that holds numbers, as the paper has it
+-- a text holds these numbers, as the paper has it
 abbrev pub HoldsNumbers : List ℤ → List ℕ → Type 0
 HoldsNumbers = Holds isSeparator numberOf
 
 -- ---- any layout
-pub held-is-read : (text : List ℕ) (c : Contents) → Sound c → HoldsNumbers (numbersIn c) text → readFrom text c
+pub held-is-read : (text : List ℕ) (c : Contents) → Sound c → HoldsNumbers (numbersIn c) text → ReadAs text c
 held-is-read text c s h = file-of-said (length text) c (tokens text) s (holds-says h 0)
 
-pub read-is-held : (text : List ℕ) (c : Contents) → readFrom text c → HoldsNumbers (numbersIn c) text
+pub read-is-held : (text : List ℕ) (c : Contents) → ReadAs text c → HoldsNumbers (numbersIn c) text
 read-is-held text c e = says-held isSeparator numberOf text 0 [] (file-in (length text) (tokens text) e .says)
 
-pub laid-alike : (text other : List ℕ) (c : Contents) {vs : List ℤ} → HoldsNumbers vs text → HoldsNumbers vs other → readFrom text c → readFrom other c
+pub laid-alike : (text other : List ℕ) (c : Contents) {vs : List ℤ} → HoldsNumbers vs text → HoldsNumbers vs other → ReadAs text c → ReadAs other c
 laid-alike text other c h o e =
     let f = file-in (length text) (tokens text) e in
     let same = says-same (holds-says h 0) (f .says) in
@@ -88,7 +88,7 @@ module _ {puts : ℕ → List ℕ} (editor : Editor puts) where
   edited-holds (before {token = token} {b = b} {text = text} n e h) =
       rw (token-left (clear-number token n) (b ∷ text)) (number-before (editor .for-separator b e) token n (edited-holds h))
 
-  pub edited-alike : (text : List ℕ) (c : Contents) → readFrom text c → readFrom (edited puts text) c
+  pub edited-alike : (text : List ℕ) (c : Contents) → ReadAs text c → ReadAs (edited puts text) c
   edited-alike text c e =
       let h = read-is-held text c e in
       held-is-read (edited puts text) c (file-in (length text) (tokens text) e .sound) (edited-holds h)
@@ -121,7 +121,7 @@ module _ {separates : ℕ → Bool} {says : List ℕ → Number} (stricter : Str
   holds-still (last {token = token} n) = last (stricter .numbers token n)
   holds-still (before {token = token} {b = b} n e h) = before (stricter .numbers token n) (stricter .separators b e) (holds-still h)
 
-  pub answered-still : (text : List ℕ) (c : Contents) → file (length text) (tokensBy separates says 0 [] text) ≡ answered c → readFrom text c
+  pub answered-still : (text : List ℕ) (c : Contents) → file (length text) (tokensBy separates says 0 [] text) ≡ answered c → ReadAs text c
   answered-still text c e =
       let f = file-in (length text) (tokensBy separates says 0 [] text) e in
       held-is-read text c (f .sound) (holds-still (says-held separates says text 0 [] (f .says)))

@@ -4,4 +4,5 @@ pub mod Fields
 pub mod Sheets
 pub mod Unique
 pub mod Cut
+pub mod Layouts
 pub mod Numbered
