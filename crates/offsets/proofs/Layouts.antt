@@ -28,6 +28,7 @@ says-same silent silent = refl
 says-same (followed {v = v} s) (followed t) = ap (λ l. v ∷ l) (says-same s t)
 
 module _ (separates : ℕ → Bool) (says : List ℕ → Number) where
+  -- a number is the last thing in the text, or stands before a separator
   pub data Holds : List ℤ → List ℕ → Type 0 where
     nothing : Holds [] []
     separator : {b : ℕ} {vs : List ℤ} {text : List ℕ} → separates b ≡ true → Holds vs text → Holds vs (b ∷ text)
