@@ -2,7 +2,7 @@
 --     whole-of-decimal                    the digits of a number below 1,000,000,000 are whole
 --     number-of-printed                   what is printed says the number again
 --     printed-injective                   two numbers are never printed alike
---     some-of-printed, length-of-printed  at least one byte, and at most k and a minus where the number is k digits long
+--     length-of-printed                   at most k bytes and a minus where the number is k digits long
 -- Assumes nothing.
 use Prim.Native.Nat.{ℕ, suc, _+_, _^_, _≤_, _<_}
 use mathlib.Core.Bool.{true, false, false≢true}
@@ -47,11 +47,6 @@ printed-injective (negsuc m) (pos n) e = absurd (plain-decimal n (sym (ap (λ l.
 printed-injective (negsuc m) (negsuc n) e =
     let same : suc m ≡ suc n = sym (value-of-decimal (suc m)) ∙ ap (λ l. value (drop 1 l)) e ∙ value-of-decimal (suc n) in
     ap negsuc (omega arith)
-
-pub some-of-printed : (v : ℤ) → 1 ≤ length (printed v)
-unfolding printed
-some-of-printed (pos n) = some-of-decimal n
-some-of-printed (negsuc n) = omega arith
 
 pub length-of-printed : (v : ℤ) (k : ℕ) → 1 ≤ k → natAbs v < 10 ^ k → length (printed v) ≤ k + 1
 unfolding printed

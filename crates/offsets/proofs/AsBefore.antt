@@ -1,4 +1,5 @@
 -- What document 01 alone lets a file hold, without request 3: a stricter grammar.
+--     Stricter, answered-still       what a stricter grammar reads is read as the same contents
 --     separatedBefore                "Separators are the space (32) and the line feed (10)"
 --     numberBefore                   "no leading zero unless the number is 0", and else a number as it is
 --     answered-as-before             a text that the reader answers by these is answered the same
@@ -21,8 +22,28 @@ use Rattle.offsets.specs.File.{Contents, file}
 use Rattle.offsets.specs.Reader.{readerOf}
 use Rattle.offsets.specs.Tokens.{Token, space, lineFeed, isSeparator, tokensBy}
 use Rattle.offsets.proofs.Answers.{past-sizes}
-use Rattle.offsets.proofs.Editors.{Stricter, answered-still}
+use Rattle.offsets.proofs.Editors.{ReadAs, HoldsNumbers, held-is-read}
+use Rattle.offsets.proofs.FileIn.{file-in}
+use Rattle.offsets.proofs.Layouts.{Holds, nothing, separator, last, before, says-held}
 
+-- what separates in one separates in the other, and a number of the one is the same number in the other
+pub record Stricter (separates : ℕ → Bool) (says : List ℕ → Number) : Type 0 where
+  pub separators : (b : ℕ) → separates b ≡ true → isSeparator b ≡ true
+  pub numbers : (token : List ℕ) {v : ℤ} → says token ≡ Is v → numberOf token ≡ Is v
+
+module _ {separates : ℕ → Bool} {says : List ℕ → Number} (stricter : Stricter separates says) where
+  holds-still : {vs : List ℤ} {text : List ℕ} → Holds separates says vs text → HoldsNumbers vs text
+  holds-still nothing = nothing
+  holds-still (separator {b = b} e h) = separator (stricter .separators b e) (holds-still h)
+  holds-still (last {token = token} n) = last (stricter .numbers token n)
+  holds-still (before {token = token} {b = b} n e h) = before (stricter .numbers token n) (stricter .separators b e) (holds-still h)
+
+  pub answered-still : (text : List ℕ) (c : Contents) → file (length text) (tokensBy separates says 0 [] text) ≡ answered c → ReadAs text c
+  answered-still text c e =
+      let f = file-in (length text) (tokensBy separates says 0 [] text) e in
+      held-is-read text c (f .sound) (holds-still (says-held separates says text 0 [] (f .says)))
+
+-- ---- document 01's
 unfoldable pub separatedBefore : ℕ → Bool
 separatedBefore b = eqb b space || eqb b lineFeed
 

@@ -3,10 +3,9 @@
 --     laid-alike                         so two texts that hold the same numbers are read alike
 --     Editor, edited, edited-alike       as are a text and what an editor makes of it that puts separators for separators
 --     tabbed, tabbing                    such as one that puts tabs for spaces and ends its lines with carriage returns
---     Stricter, answered-still           what a stricter grammar reads is read as the same contents
 -- Assumes nothing.
 use mathlib.Core.Path.{_≡_, refl, sym, ap, _∙_}
-use mathlib.Core.Bool.{Bool, true, false}
+use mathlib.Core.Bool.{true, false}
 use mathlib.Core.List.{List, [], _∷_, _++_, append-nil}
 use Prim.Native.Nat.{ℕ}
 use lib.Dec.{eqb}
@@ -16,11 +15,10 @@ use Rattle.arithmetic.specs.Choice.{if_then_else_}
 use Rattle.arithmetic.proofs.Choice.{if-either}
 use Rattle.arithmetic.proofs.Tests.{never}
 use Rattle.numerals.specs.Number.{numberOf}
-use Rattle.numerals.specs.declared.reading.Number.{Number}
 use Rattle.numerals.specs.declared.reading.Number.the-variants.{Is}
 use Rattle.ranges.specs.Outcome.{answered}
 use Rattle.offsets.specs.File.{Contents, file}
-use Rattle.offsets.specs.Tokens.{space, lineFeed, tab, carriageReturn, isSeparator, tokensBy, tokens}
+use Rattle.offsets.specs.Tokens.{space, lineFeed, tab, carriageReturn, isSeparator, tokens}
 use Rattle.offsets.proofs.FileIn.{file-in}
 use Rattle.offsets.proofs.Layouts.{says-same, Holds, nothing, separator, last, before, says-held, holds-says, clear-number}
 use Rattle.offsets.proofs.Sound.{Sound, numbersIn, file-of-said}
@@ -89,9 +87,7 @@ module _ {puts : ℕ → List ℕ} (editor : Editor puts) where
       rw (token-left (clear-number token n) (b ∷ text)) (number-before (editor .for-separator b e) token n (edited-holds h))
 
   pub edited-alike : (text : List ℕ) (c : Contents) → ReadAs text c → ReadAs (edited puts text) c
-  edited-alike text c e =
-      let h = read-is-held text c e in
-      held-is-read (edited puts text) c (file-in (length text) (tokens text) e .sound) (edited-holds h)
+  edited-alike text c e = let h = read-is-held text c e in laid-alike text (edited puts text) c h (edited-holds h) e
 
 -- tabs for spaces, and a carriage return before each line feed
 unfoldable pub tabbed : ℕ → List ℕ
@@ -107,21 +103,3 @@ tabbing = record {
       if-either (λ l. l ≡ b ∷ []) (eqb b space) (λ s. never (sym e ∙ rw s))
       (λ s. if-either (λ l. l ≡ b ∷ []) (eqb b lineFeed) (λ l. never (sym e ∙ rw (s, l))) (λ l. refl));
 }
-
--- ---- a stricter grammar
--- what separates in one separates in the other, and a number of the one is the same number in the other
-pub record Stricter (separates : ℕ → Bool) (says : List ℕ → Number) : Type 0 where
-  pub separators : (b : ℕ) → separates b ≡ true → isSeparator b ≡ true
-  pub numbers : (token : List ℕ) {v : ℤ} → says token ≡ Is v → numberOf token ≡ Is v
-
-module _ {separates : ℕ → Bool} {says : List ℕ → Number} (stricter : Stricter separates says) where
-  holds-still : {vs : List ℤ} {text : List ℕ} → Holds separates says vs text → HoldsNumbers vs text
-  holds-still nothing = nothing
-  holds-still (separator {b = b} e h) = separator (stricter .separators b e) (holds-still h)
-  holds-still (last {token = token} n) = last (stricter .numbers token n)
-  holds-still (before {token = token} {b = b} n e h) = before (stricter .numbers token n) (stricter .separators b e) (holds-still h)
-
-  pub answered-still : (text : List ℕ) (c : Contents) → file (length text) (tokensBy separates says 0 [] text) ≡ answered c → ReadAs text c
-  answered-still text c e =
-      let f = file-in (length text) (tokensBy separates says 0 [] text) e in
-      held-is-read text c (f .sound) (holds-still (says-held separates says text 0 [] (f .says)))

@@ -14,6 +14,7 @@ pub mod Sound
 pub mod FileIn
 pub mod Editors
 pub mod AsBefore
+pub mod Figures
 pub mod Tried
 pub mod RoundTrip
 pub mod Unique

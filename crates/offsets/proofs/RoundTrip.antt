@@ -27,8 +27,8 @@ use Rattle.offsets.specs.Tokens.{tokens}
 use Rattle.offsets.specs.Written.{lines, counted, sectionText, textOf}
 use Rattle.offsets.specs.Writer.{writerOf}
 use Rattle.offsets.proofs.InRanges.{InRanges, no-more, and-in, in-ranges-length, length-of-records, in-ranges-of-table, no-number-outside, Every, every-records, Few, short-in-ranges, Whole, whole-in-ranges}
-use Rattle.offsets.proofs.Layouts.{holds-says}
-use Rattle.offsets.proofs.Sound.{Sound, recordsIn, points-le, length-of-half-breadths, length-of-items, length-of-tanks, numbersIn, length-of-numbers, file-of-said}
+use Rattle.offsets.proofs.Editors.{held-is-read}
+use Rattle.offsets.proofs.Sound.{Sound, recordsIn, points-le, length-of-half-breadths, length-of-items, length-of-tanks, numbersIn, length-of-numbers}
 use Rattle.offsets.proofs.Spelled.{Spells, spells-holds, spells-append, length-of-spelled, line-spells, lines-spell}
 use Rattle.offsets.proofs.Tried.{answered-passes, answers}
 
@@ -114,7 +114,7 @@ module _ (p : Particulars) (h : List ℕ) (i t : List ℤ) (s : Sound (contentsO
   length-of-text = omega (arith, length-of-spelled text-spells, length-of-numbers (contentsOf p h i t) s)
 
   pub text-is-read : file (length (textOf p h i t)) (tokens (textOf p h i t)) ≡ answered (contentsOf p h i t)
-  text-is-read = file-of-said (length (textOf p h i t)) (contentsOf p h i t) (tokens (textOf p h i t)) s (holds-says (spells-holds text-spells) 0)
+  text-is-read = held-is-read (textOf p h i t) (contentsOf p h i t) s (spells-holds text-spells)
 
 -- what the writer answers is read as what was written
 pub written-is-read : (p : Particulars) (h : List ℕ) (i t : List ℤ) (room : ℕ) {text : List ℕ} → writerOf p h i t room ≡ answered text
