@@ -20,12 +20,13 @@ use Rattle.ranges.specs.Refusals.{outOfRange, wrongSize, tooLight, tooHeavy, pl
 use Rattle.ranges.specs.Sizes.{rowWidth}
 use Rattle.ranges.proofs.Outcomes.{not-refused, answered-then}
 use Rattle.ranges.proofs.Outside.{outside-le}
-use Rattle.loading.specs.Condition.{tanksFrom, conditionAt, floats, conditionOf}
+use Rattle.loading.specs.Condition.{tanksFrom, conditionAt, floats, conditionBy}
 use Rattle.loading.specs.Load.{Load, weight}
 use Rattle.loading.specs.Private.Afloat.{Within}
 use Rattle.loading.specs.Records.{loadOf}
 use Rattle.loading.specs.Table.{Table, hull, lastRow}
 use Rattle.loading.specs.declared.Condition.{Condition}
+use Rattle.loading.specs.declared.Reading.{Reading}
 use Rattle.loading.proofs.Laws.{Usable}
 use Rattle.loading.proofs.Order.{Sized, rows-whole}
 use Rattle.loading.proofs.Usability.{usable-count, usable-table}
@@ -43,22 +44,22 @@ rows-are-usable {items} {tanks} {rows} t =
     usable-table rows (length rows / rowWidth) (record { size = rows-whole items tanks rows (t .sized); usable = t .rows-usable })
 
 -- a weight that floats lies within the table
-floating : (t : Table) (l : Load) {c : Condition} → floats t l ≡ answered c → Within t (weight l) × (c ≡ conditionAt t l)
+floating : (reading : Reading) (t : Table) (l : Load) {c : Condition} → floats reading t l ≡ answered c → Within t (weight l) × (c ≡ conditionAt reading t l)
 unfolding floats
-floating t l {c} e =
+floating reading t l {c} e =
     let light = not-refused tooLight 0 e in
     let heavy = not-refused tooHeavy 0 (light .1) in
     (record { least = ltb-false _ _ (light .0); most = ltb-false _ _ (heavy .0) }, cc (heavy .1))
 
 -- and the other way
-within-floats : (t : Table) (l : Load) → Within t (weight l) → floats t l ≡ answered (conditionAt t l)
+within-floats : (reading : Reading) (t : Table) (l : Load) → Within t (weight l) → floats reading t l ≡ answered (conditionAt reading t l)
 unfolding floats
-within-floats t l w =
+within-floats reading t l w =
     simp (le-ltb (weight l) (t .first .displacement) (w .least), le-ltb (lastRow t .displacement) (weight l) (w .most), chosen)
 
-module _ (items tanks : List ℤ) (rows : List ℕ) where
-  pub answer-says : {c : Condition} → conditionOf items tanks rows ≡ answered c → Tried items tanks rows × (c ≡ conditionAt (hull rows) (loadOf items tanks))
-  unfolding conditionOf
+module _ (reading : Reading) (items tanks : List ℤ) (rows : List ℕ) where
+  pub answer-says : {c : Condition} → conditionBy reading items tanks rows ≡ answered c → Tried items tanks rows × (c ≡ conditionAt reading (hull rows) (loadOf items tanks))
+  unfolding conditionBy
   answer-says {c} e =
       let count = length rows / rowWidth in
       let bad = firstOutside item items in
@@ -68,7 +69,7 @@ module _ (items tanks : List ℤ) (rows : List ℕ) where
       let u = answered-then (r .1) in
       let j = not-refused outOfRange (placeOfItems + bad) (u .2) in
       let t = answered-then (j .1) in
-      let f = floating (hull rows) (loadOf items tanks) (t .2) in (
+      let f = floating reading (hull rows) (loadOf items tanks) (t .2) in (
         record {
           sized = record { items-whole = not-false _ (i .0); tanks-whole = not-false _ (k .0); rows-allowed = not-false _ (r .0) };
           rows-usable = usable-count rows count (u .0) (u .1);
@@ -80,8 +81,8 @@ module _ (items tanks : List ℤ) (rows : List ℕ) where
         f .1,
       )
 
-  pub tried-answered : Tried items tanks rows → conditionOf items tanks rows ≡ answered (conditionAt (hull rows) (loadOf items tanks))
-  unfolding conditionOf andThen
+  pub tried-answered : Tried items tanks rows → conditionBy reading items tanks rows ≡ answered (conditionAt reading (hull rows) (loadOf items tanks))
+  unfolding conditionBy andThen
   tried-answered t =
       let all : length items ≤ firstOutside item items = omega (arith, t .items-inside) in
-      simp (t .sized .items-whole, t .sized .tanks-whole, t .sized .rows-allowed, t .rows-usable, le-ltb _ _ all, t .tanks-passed, within-floats (hull rows) (loadOf items tanks) (t .within), chosen)
+      simp (t .sized .items-whole, t .sized .tanks-whole, t .sized .rows-allowed, t .rows-usable, le-ltb _ _ all, t .tanks-passed, within-floats reading (hull rows) (loadOf items tanks) (t .within), chosen)

@@ -1,4 +1,4 @@
--- Demand 3, of the conditions themselves: "Heavier never floats higher; equal weights float alike; lowering weights, or shrinking a tank's
+-- Demand 3, of the conditions themselves, by one reading of KM, whichever it is: "Heavier never floats higher; equal weights float alike; lowering weights, or shrinking a tank's
 -- surface, never lowers GM nor turns a pass into a fail; GM is never above the unrounded GM and less than 3 mm below it."
 --     draft-is-greatest                    the draft is the greatest whole one whose straight-line displacement does not exceed the weight
 --     gm-is-close                          GM against the unrounded GM
@@ -16,7 +16,7 @@ use lib.Dec.{T}
 use lib.IntN.{ℤ}
 use lib.Signed.{_≤ℤ_}
 use Rattle.ranges.specs.Outcome.{answered}
-use Rattle.loading.specs.Condition.{conditionAt, conditionOf}
+use Rattle.loading.specs.Condition.{conditionAt, conditionBy}
 use Rattle.loading.specs.Demand.{LoweredTables, NoWorse}
 use Rattle.loading.specs.Fraction.{LessThanThreeBelow}
 use Rattle.loading.specs.Load.{Load, Lowered}
@@ -26,41 +26,42 @@ use Rattle.loading.specs.Stability.{unroundedGM}
 use Rattle.loading.specs.Straight.{Greatest}
 use Rattle.loading.specs.Table.{hull}
 use Rattle.loading.specs.declared.Condition.{Condition}
+use Rattle.loading.specs.declared.Reading.{Reading}
 use Rattle.loading.proofs.Answers.{Tried, answer-says, tried-answered, rows-are-usable}
 use Rattle.loading.proofs.Demand.{Demand3}
 use Rattle.loading.proofs.Lowered.{tried-again}
 use Rattle.loading.proofs.Lowering.{lower-weight, lower-longitudinal, lower-transverse}
 use Rattle.loading.proofs.Readings.{demand-3-of-the-paper}
 
--- c is what the call answers for some items and tanks over these rows
-pub record ConditionOver (rows : List ℕ) (c : Condition) : Type 0 where
+-- c is what the call answers by this reading for some items and tanks over these rows
+pub record ConditionOver (reading : Reading) (rows : List ℕ) (c : Condition) : Type 0 where
   pub items : List ℤ
   pub tanks : List ℤ
-  pub given : conditionOf items tanks rows ≡ answered c
+  pub given : conditionBy reading items tanks rows ≡ answered c
 
-module _ {rows : List ℕ} {c : Condition} (a : ConditionOver rows c) where
+module _ {reading : Reading} {rows : List ℕ} {c : Condition} (a : ConditionOver reading rows c) where
   abbrev pub aboard : Load
   aboard = loadOf (a .items) (a .tanks)
 
   tried : Tried (a .items) (a .tanks) rows
-  tried = answer-says (a .items) (a .tanks) rows (a .given) .0
+  tried = answer-says reading (a .items) (a .tanks) rows (a .given) .0
 
-  is : c ≡ conditionAt (hull rows) aboard
-  is = answer-says (a .items) (a .tanks) rows (a .given) .1
+  is : c ≡ conditionAt reading (hull rows) aboard
+  is = answer-says reading (a .items) (a .tanks) rows (a .given) .1
 
-  demand : Demand3 paperRules (hull rows)
-  demand = demand-3-of-the-paper (hull rows) (rows-are-usable tried)
+  demand : Demand3 (paperRules reading) (hull rows)
+  demand = demand-3-of-the-paper reading (hull rows) (rows-are-usable tried)
 
   pub draft-is-greatest : Greatest (hull rows) (c .weight) (c .draft)
   unfolding conditionAt
   draft-is-greatest = rw (is) (demand .draft-is-greatest aboard (tried .within))
 
-  pub gm-is-close : LessThanThreeBelow (c .gm) (unroundedGM paperRules (hull rows) aboard)
+  pub gm-is-close : LessThanThreeBelow (c .gm) (unroundedGM (paperRules reading) (hull rows) aboard)
   unfolding conditionAt
   gm-is-close = rw (is) (demand .gm-is-close aboard (tried .within))
 
 -- of two conditions over the same rows
-module _ {rows : List ℕ} {c d : Condition} (a : ConditionOver rows c) (b : ConditionOver rows d) where
+module _ {reading : Reading} {rows : List ℕ} {c d : Condition} (a : ConditionOver reading rows c) (b : ConditionOver reading rows d) where
   pub heavier-never-floats-higher : c .weight ≤ d .weight → c .draft ≤ d .draft
   unfolding conditionAt
   heavier-never-floats-higher =
@@ -81,15 +82,15 @@ module _ {rows : List ℕ} {c d : Condition} (a : ConditionOver rows c) (b : Con
       rw (is a, is b) (demand a .lowering-keeps-a-pass (aboard a) (aboard b) (tried b .within))
 
 -- of the lent tables
-pub lowering-never-costs-the-answer : (rows : List ℕ) {items′ tanks′ items tanks : List ℤ} {c : Condition}
-    → conditionOf items tanks rows ≡ answered c → LoweredTables items′ tanks′ items tanks
-    → (d : Condition) × (conditionOf items′ tanks′ rows ≡ answered d) × NoWorse d c
+pub lowering-never-costs-the-answer : (reading : Reading) (rows : List ℕ) {items′ tanks′ items tanks : List ℤ} {c : Condition}
+    → conditionBy reading items tanks rows ≡ answered c → LoweredTables items′ tanks′ items tanks
+    → (d : Condition) × (conditionBy reading items′ tanks′ rows ≡ answered d) × NoWorse d c
 unfolding conditionAt
-lowering-never-costs-the-answer rows {items′} {tanks′} {items} {tanks} {c} e low =
-    let before : ConditionOver rows c = record { items = items; tanks = tanks; given = e } in
-    let again = tried-answered items′ tanks′ rows (tried-again low (tried before)) in
-    let d = conditionAt (hull rows) (loadOf items′ tanks′) in
-    let after : ConditionOver rows d = record { items = items′; tanks = tanks′; given = again } in
+lowering-never-costs-the-answer reading rows {items′} {tanks′} {items} {tanks} {c} e low =
+    let before : ConditionOver reading rows c = record { items = items; tanks = tanks; given = e } in
+    let again = tried-answered reading items′ tanks′ rows (tried-again low (tried before)) in
+    let d = conditionAt reading (hull rows) (loadOf items′ tanks′) in
+    let after : ConditionOver reading rows d = record { items = items′; tanks = tanks′; given = again } in
     let k = loadOf items′ tanks′ in
     let l = loadOf items tanks in
     let same = lower-weight k l (low .lowered) in

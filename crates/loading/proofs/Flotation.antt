@@ -3,12 +3,12 @@
 --     floats-on                      draft and KM at a row's own weight
 --     next-there                     at any other weight there is a row above,
 --     km-line, draft-line            W lies between the two,
---     floats-between                 and draft and KM lie on the straight line
+--     floats-between                 and the draft lies on the straight line, and KM where it is read
 -- Assumes nothing.
 use mathlib.Core.Path.{_≡_, refl, sym, ap, _∙_}
 use mathlib.Core.List.{List}
 use Prim.Native.Nat.{ℕ, _+_, _-_, _*_, _/_, _≤_, _<_}
-use native.Mathlib.Nat.{mul-le-mul-right, mul-add, div-one, zero-mul, zero-add}
+use native.Mathlib.Nat.{mul-le-mul-right, mul-add, zero-mul, zero-add}
 use native.Mathlib.Decide.{decLt}
 use native.Mathlib.Omega.{arith}
 use Rattle.arithmetic.proofs.Rounding.{down-of, down-mono, down-whole}
@@ -17,8 +17,11 @@ use Rattle.ranges.specs.Private.InRange.{rowRange}
 use Rattle.hydrostatics.specs.Usable.{rowIn, spacing}
 use Rattle.hydrostatics.specs.declared.Row.{Row}
 use Rattle.loading.specs.Private.Afloat.{RowsUsable, RowBelow, OnLine, Floats, Within}
-use Rattle.loading.specs.Paper.{onLine}
+use Rattle.loading.specs.Paper.{ruleOf}
 use Rattle.loading.specs.Table.{Place, on, between, tableOf, lastRow, placeOf, draftAt, line}
+use Rattle.loading.specs.declared.Reading.{Reading}
+use Rattle.loading.specs.declared.Reading.the-variants.{Lesser, StraightLine}
+use Rattle.loading.proofs.Readings.{own-weight}
 use Rattle.loading.proofs.Tables.{last-row, place-on, place-between}
 use Rattle.loading.proofs.Usability.{UsableRow, usable-at}
 
@@ -37,23 +40,28 @@ pub record Afloat (rows : List ℕ) (count W r : ℕ) (row : Row) : Type 0 where
   pub below : RowBelow rows count W r
   pub here : row ≡ rowIn rows r
 
+-- and neither is KM, however it is read
+km-most : (reading : Reading) (r s : Row) {W : ℕ} → OnLine (r .km) (s .km) (r .displacement) (s .displacement) W → ruleOf reading .given (between r s) W ≤ highestMetacentre
+km-most Lesser r s l = omega (arith, l .first)
+km-most StraightLine r s l = line-most l
+
 module _ {rows : List ℕ} {count W r : ℕ} {row : Row} (a : Afloat rows count W r row) where
-  at-place : (p : Place) → placeOf (tableOf rows count) W ≡ p → (d k : ℕ) → d ≡ draftAt (spacing rows) p W → k ≡ onLine p W .top / onLine p W .bottom → k ≤ highestMetacentre → Floats rows count W (record { draft = d; km = k })
-  at-place p e d k f g h = record {
+  at-place : (reading : Reading) (p : Place) → placeOf (tableOf rows count) W ≡ p → (d k : ℕ) → d ≡ draftAt (spacing rows) p W → k ≡ ruleOf reading .given p W → k ≤ highestMetacentre → Floats reading rows count W (record { draft = d; km = k })
+  at-place reading p e d k f g h = record {
     draft = f ∙ ap (λ q. draftAt (spacing rows) q W) (sym e);
-    km = g ∙ ap (λ q. onLine q W .top / onLine q W .bottom) (sym e);
+    km = g ∙ ap (λ q. ruleOf reading .given q W) (sym e);
     km-most = h;
   }
 
   row-usable : UsableRow rows r
   row-usable = usable-at rows count (a .usable) r (a .below .there)
 
-  pub floats-on : W ≡ row .displacement → Floats rows count W (record { draft = row .draft; km = row .km })
-  floats-on e =
+  pub floats-on : (reading : Reading) → W ≡ row .displacement → Floats reading rows count W (record { draft = row .draft; km = row .km })
+  floats-on reading e =
       let own : W ≡ rowIn rows r .displacement = e ∙ ap (λ s. s .displacement) (a .here) in
       rw (a .here)
-      (at-place (on (rowIn rows r)) (a .below .falls ∙ place-on rows count r W (a .below .next-above) (a .below .there) own) _ _
-      refl (sym (div-one (rowIn rows r .km))) (row-usable .ranged .km .1))
+      (at-place reading (on (rowIn rows r)) (a .below .falls ∙ place-on rows count r W (a .below .next-above) (a .below .there) own) _ _
+      refl (sym (own-weight reading (rowIn rows r) W)) (row-usable .ranged .km .1))
 
   module _ (n : W ≡ row .displacement → ⊥) where
     not-own : W ≡ rowIn rows r .displacement → ⊥
@@ -97,10 +105,10 @@ module _ {rows : List ℕ} {count W r : ℕ} {row : Row} (a : Afloat rows count 
           pub draft-fits : row .draft + more ≤ most (rowRange 0) + highestMetacentre
           draft-fits = rw e (omega (arith, line-most draft-line, row-usable .ranged .draft .1, ap (λ s. s .draft) (a .here)))
 
-          pub floats-between : {km : ℕ} → km ≡ line (row .km) (next .km) (row .displacement) (next .displacement) W / (next .displacement - row .displacement) → Floats rows count W (record { draft = row .draft + more; km = km })
-          floats-between f =
-              let most = line-most km-line in
+          pub floats-between : (reading : Reading) {km : ℕ} → km ≡ ruleOf reading .given (between row next) W → Floats reading rows count W (record { draft = row .draft + more; km = km })
+          floats-between reading f =
+              let most = km-most reading row next km-line in
               rw (e, f, half)
-              (at-place (between row next)
+              (at-place reading (between row next)
               (a .below .falls ∙ place-between rows count r W next-there (a .below .next-above next-there) not-own ∙ sym (rw (a .here, above)))
               _ _ (simp (zero-mul, zero-add)) refl most)

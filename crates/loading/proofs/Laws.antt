@@ -7,7 +7,7 @@ use Prim.Native.Nat.{ℕ, _+_, _*_, _≤_, _<_}
 use Rattle.arithmetic.proofs.Rounding.{RoundedDown}
 use Rattle.hydrostatics.specs.declared.Row.{Row}
 use Rattle.loading.specs.Load.{Tank, LoweredTank}
-use Rattle.loading.specs.Rules.{Reading, Surface, Rules}
+use Rattle.loading.specs.Rules.{KMRule, Surface, Rules}
 use Rattle.loading.specs.Table.{Table, Place, spacing}
 use Rattle.loading.proofs.Places.{Stands}
 
@@ -22,7 +22,7 @@ pub record Usable (t : Table) : Type 0 where
   pub waterlines : Waterlines (spacing t) 2 (t .first) (t .rest)
 
 -- KM is the unrounded KM rounded down.
-pub record SoundReading (reading : Reading) : Type 0 where
+pub record SoundReading (reading : KMRule) : Type 0 where
   pub rounds : (W : ℕ) (p : Place) → Stands W p → RoundedDown (reading .unrounded p W .top) (reading .unrounded p W .bottom) (reading .given p W)
 
 -- An empty tank has no surface, and none grows when its tank is lowered.

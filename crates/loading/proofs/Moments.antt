@@ -23,6 +23,7 @@ use Rattle.loading.specs.Private.Steady.{transverseOf, conditionWith}
 use Rattle.loading.specs.Table.{Table}
 use Rattle.loading.specs.Total.{total, totalℤ}
 use Rattle.loading.specs.declared.Aboard.{Aboard}
+use Rattle.loading.specs.declared.Reading.{Reading}
 use Rattle.loading.proofs.Difference.{difference-times}
 use Rattle.loading.proofs.Adding.{total-none}
 
@@ -64,9 +65,9 @@ module _ (l : Load) where
   unfolding verticalMoment
   vertical-is = figure-is (λ a. a .vertical) refl (λ a b. refl)
 
-  pub surface-is : aboardOf l .surface ≡ freeSurface paperRules l
+  pub surface-is : (reading : Reading) → aboardOf l .surface ≡ freeSurface (paperRules reading) l
   unfolding freeSurface
-  surface-is =
+  surface-is reading =
       figure-is (λ a. a .surface) refl (λ a b. refl)
       ∙ ap (λ n. n + total (surfaceOf rectangle) (l .tanks)) (total-none (l .items))
       ∙ zero-add _
@@ -79,6 +80,6 @@ module _ (l : Load) where
       (net-of ofItem (λ i. pos (i .kg) *ℤ i .y) (λ i. kg-y (i .kg) (i .y)) (l .items))
       (net-of ofTank (λ t. pos (t .contents) *ℤ t .y) (λ t. kg-y (t .contents) (t .y)) (l .tanks))
 
-  pub condition-is : (t : Table) → conditionWith (aboardOf l) (draft t l) (km paperRules t l) ≡ conditionAt t l
+  pub condition-is : (reading : Reading) (t : Table) → conditionWith (aboardOf l) (draft t l) (km (paperRules reading) t l) ≡ conditionAt reading t l
   unfolding conditionWith conditionAt
-  condition-is t = rw (weight-is, longitudinal-is, vertical-is, surface-is, transverse-is)
+  condition-is reading t = rw (weight-is, longitudinal-is, vertical-is, surface-is reading, transverse-is)

@@ -11,10 +11,11 @@ use Rattle.ranges.specs.Outcome.{Numbered}
 use Rattle.ranges.specs.Sizes.{tankWidth, rowWidth}
 use Rattle.ranges.proofs.Numbered.{numbered}
 use Rattle.hydrostatics.proofs.Numbered.{usable-numbered}
-use Rattle.loading.specs.Condition.{tanksFrom, floats, conditionOf}
+use Rattle.loading.specs.Condition.{tanksFrom, floats, conditionBy}
 use Rattle.loading.specs.Load.{Load}
 use Rattle.loading.specs.Records.{loadOf}
 use Rattle.loading.specs.Table.{Table, hull}
+use Rattle.loading.specs.declared.Reading.{Reading}
 
 pub tanks-numbered : (place : ℕ) (tanks : List ℤ) → Numbered (tanksFrom place tanks)
 unfolding tanksFrom
@@ -29,14 +30,14 @@ tanks-numbered place (contents ∷ capacity ∷ []) = search numbered
 tanks-numbered place (contents ∷ []) = search numbered
 tanks-numbered place [] = search numbered
 
-pub floats-numbered : (t : Table) (l : Load) → Numbered (floats t l)
+pub floats-numbered : (reading : Reading) (t : Table) (l : Load) → Numbered (floats reading t l)
 unfolding floats
-floats-numbered t l = search numbered
+floats-numbered reading t l = search numbered
 
-pub condition-numbered : (items tanks : List ℤ) (rows : List ℕ) → Numbered (conditionOf items tanks rows)
-unfolding conditionOf
-condition-numbered items tanks rows =
+pub condition-numbered : (reading : Reading) (items tanks : List ℤ) (rows : List ℕ) → Numbered (conditionBy reading items tanks rows)
+unfolding conditionBy
+condition-numbered reading items tanks rows =
     let usable = usable-numbered rows (length rows / rowWidth) in
     let tanks-are = tanks-numbered 0 tanks in
-    let afloat = floats-numbered (hull rows) (loadOf items tanks) in
+    let afloat = floats-numbered reading (hull rows) (loadOf items tanks) in
     search numbered depth 10

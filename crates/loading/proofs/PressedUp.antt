@@ -22,6 +22,7 @@ use Rattle.loading.specs.Rules.{Rules, surfaceOf}
 use Rattle.loading.specs.Stability.{freeSurface, km, gm}
 use Rattle.loading.specs.Table.{Table, hull}
 use Rattle.loading.specs.declared.Condition.{Condition}
+use Rattle.loading.specs.declared.Reading.{Reading}
 use Rattle.loading.proofs.Answers.{Tried, answer-says, rows-are-usable}
 use Rattle.loading.proofs.Demand.{Passes, less-kg}
 use Rattle.loading.proofs.Demand3.{ConditionOver, aboard}
@@ -32,8 +33,8 @@ use Rattle.loading.proofs.Adding.{total-le}
 abbrev notFull : Tank → ℕ
 notFull t = if ltb 0 (t .contents) && ltb (t .contents) (t .capacity) then t .length * t .breadth ^ 3 * t .density else 0
 
-abbrev pub toTheLastKilogram : Rules
-toTheLastKilogram = record { reading = paperRules .reading; surface = record { parts = notFull; unit = rectangle .unit } }
+abbrev pub toTheLastKilogram : Reading → Rules
+toTheLastKilogram reading = record { reading = paperRules reading .reading; surface = record { parts = notFull; unit = rectangle .unit } }
 
 -- what is slack is not full
 parts-not-more : (t : Tank) → rectangleParts t ≤ notFull t
@@ -48,32 +49,32 @@ parts-not-more t =
     simp (both .0, lt-ltb (t .contents) (t .capacity) room, chosen) (le-refl _))
     (λ e. omega arith)
 
-pub surface-is-not-more : (l : Load) → freeSurface paperRules l ≤ freeSurface toTheLastKilogram l
+pub surface-is-not-more : (reading : Reading) (l : Load) → freeSurface (paperRules reading) l ≤ freeSurface (toTheLastKilogram reading) l
 unfolding freeSurface
-surface-is-not-more l =
+surface-is-not-more reading l =
     let some : 0 < rectangle .unit = omega arith in
-    total-le (surfaceOf rectangle) (surfaceOf (toTheLastKilogram .surface))
+    total-le (surfaceOf rectangle) (surfaceOf (toTheLastKilogram reading .surface))
     (λ t. up-mono (up-of (rectangleParts t) (rectangle .unit) some) (up-of (notFull t) (rectangle .unit) some) (parts-not-more t))
     (l .tanks)
 
-gm-not-less : (t : Table) (l : Load) → 0 < weight l → gm toTheLastKilogram t l ≤ℤ gm paperRules t l
-gm-not-less t l laden =
-    less-kg (km paperRules t l) (verticalMoment l + freeSurface toTheLastKilogram l) (verticalMoment l + freeSurface paperRules l) (weight l) laden
-    (omega (arith, surface-is-not-more l))
+gm-not-less : (reading : Reading) (t : Table) (l : Load) → 0 < weight l → gm (toTheLastKilogram reading) t l ≤ℤ gm (paperRules reading) t l
+gm-not-less reading t l laden =
+    less-kg (km (paperRules reading) t l) (verticalMoment l + freeSurface (toTheLastKilogram reading) l) (verticalMoment l + freeSurface (paperRules reading) l) (weight l) laden
+    (omega (arith, surface-is-not-more reading l))
 
-module _ {rows : List ℕ} {c : Condition} (a : ConditionOver rows c) where
-  says : Tried (a .items) (a .tanks) rows × (c ≡ conditionAt (hull rows) (aboard a))
-  says = answer-says (a .items) (a .tanks) rows (a .given)
+module _ {reading : Reading} {rows : List ℕ} {c : Condition} (a : ConditionOver reading rows c) where
+  says : Tried (a .items) (a .tanks) rows × (c ≡ conditionAt reading (hull rows) (aboard a))
+  says = answer-says reading (a .items) (a .tanks) rows (a .given)
 
-  not-less : gm toTheLastKilogram (hull rows) (aboard a) ≤ℤ gm paperRules (hull rows) (aboard a)
+  not-less : gm (toTheLastKilogram reading) (hull rows) (aboard a) ≤ℤ gm (paperRules reading) (hull rows) (aboard a)
   not-less =
-      gm-not-less (hull rows) (aboard a) (omega (arith, says .0 .within .least, rows-are-usable (says .0) .afloat))
+      gm-not-less reading (hull rows) (aboard a) (omega (arith, says .0 .within .least, rows-are-usable (says .0) .afloat))
 
-  pub gm-is-not-less : gm toTheLastKilogram (hull rows) (aboard a) ≤ℤ c .gm
+  pub gm-is-not-less : gm (toTheLastKilogram reading) (hull rows) (aboard a) ≤ℤ c .gm
   unfolding conditionAt
   gm-is-not-less = rw (says .1) not-less
 
-  pub pass-is-not-lost : Passes toTheLastKilogram (hull rows) (aboard a) → T (c .passes)
+  pub pass-is-not-lost : Passes (toTheLastKilogram reading) (hull rows) (aboard a) → T (c .passes)
   unfolding conditionAt
   pass-is-not-lost =
-      rw (says .1) (pass-mono (weight (aboard a)) (transverseMoment (aboard a)) (gm toTheLastKilogram (hull rows) (aboard a)) (gm paperRules (hull rows) (aboard a)) not-less)
+      rw (says .1) (pass-mono (weight (aboard a)) (transverseMoment (aboard a)) (gm (toTheLastKilogram reading) (hull rows) (aboard a)) (gm (paperRules reading) (hull rows) (aboard a)) not-less)

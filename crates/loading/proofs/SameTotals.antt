@@ -12,7 +12,7 @@ use lib.ListN.{length}
 use Rattle.arithmetic.proofs.Choice.{chosen}
 use Rattle.ranges.specs.Fields.{item}
 use Rattle.ranges.specs.Outside.{firstOutside}
-use Rattle.loading.specs.Condition.{conditionAt, floats, conditionOf}
+use Rattle.loading.specs.Condition.{conditionAt, floats, conditionBy}
 use Rattle.loading.specs.Items.{totalsOfItems}
 use Rattle.loading.specs.Load.{Item, Load, weight, longitudinalMoment, verticalMoment, transverseMoment}
 use Rattle.loading.specs.Paper.{paperRules}
@@ -20,11 +20,12 @@ use Rattle.loading.specs.Records.{itemsOf, tanksOf, loadOf}
 use Rattle.loading.specs.Stability.{freeSurface}
 use Rattle.loading.specs.Table.{Table, hull}
 use Rattle.loading.specs.Total.{total, totalℤ}
+use Rattle.loading.specs.declared.Reading.{Reading}
 
 -- the figures that the rows are asked with
-floats-same : (t : Table) (k l : Load) → weight k ≡ weight l → longitudinalMoment k ≡ longitudinalMoment l → verticalMoment k ≡ verticalMoment l → transverseMoment k ≡ transverseMoment l → freeSurface paperRules k ≡ freeSurface paperRules l → floats t k ≡ floats t l
+floats-same : (reading : Reading) (t : Table) (k l : Load) → weight k ≡ weight l → longitudinalMoment k ≡ longitudinalMoment l → verticalMoment k ≡ verticalMoment l → transverseMoment k ≡ transverseMoment l → freeSurface (paperRules reading) k ≡ freeSurface (paperRules reading) l → floats reading t k ≡ floats reading t l
 unfolding floats conditionAt
-floats-same t k l w x z y s = rw (w, x, z, y, s)
+floats-same reading t k l w x z y s = rw (w, x, z, y, s)
 
 -- with any tanks, the items' part of each sum is the same
 module _ (a b tanks : List ℤ) (same : totalsOfItems a ≡ totalsOfItems b) where
@@ -47,12 +48,12 @@ module _ (a b tanks : List ℤ) (same : totalsOfItems a ≡ totalsOfItems b) whe
       ap (λ z. z +ℤ totalℤ (λ t. pos (t .contents) *ℤ t .y) (tanksOf tanks))
       (sym (+ℤ-idr (of (itemsOf a))) ∙ ap (λ t. t .transverse) same ∙ +ℤ-idr (of (itemsOf b)))
 
-  floats-with : (t : Table) → floats t (loadOf a tanks) ≡ floats t (loadOf b tanks)
+  floats-with : (reading : Reading) (t : Table) → floats reading t (loadOf a tanks) ≡ floats reading t (loadOf b tanks)
   unfolding freeSurface
-  floats-with t = floats-same t (loadOf a tanks) (loadOf b tanks) weight-same longitudinal-same vertical-same transverse-same refl
+  floats-with reading t = floats-same reading t (loadOf a tanks) (loadOf b tanks) weight-same longitudinal-same vertical-same transverse-same refl
 
-pub condition-same : (a b tanks : List ℤ) (rows : List ℕ) → length a ≡ length b → firstOutside item a ≡ length a → firstOutside item b ≡ length b → totalsOfItems a ≡ totalsOfItems b → conditionOf a tanks rows ≡ conditionOf b tanks rows
-unfolding conditionOf
-condition-same a b tanks rows size in-range in-range₂ same =
-    rw (in-range, in-range₂, size, floats-with a b tanks same (hull rows), le-ltb (length b) (length b) (le-refl (length b)))
+pub condition-same : (reading : Reading) (a b tanks : List ℤ) (rows : List ℕ) → length a ≡ length b → firstOutside item a ≡ length a → firstOutside item b ≡ length b → totalsOfItems a ≡ totalsOfItems b → conditionBy reading a tanks rows ≡ conditionBy reading b tanks rows
+unfolding conditionBy
+condition-same reading a b tanks rows size in-range in-range₂ same =
+    rw (in-range, in-range₂, size, floats-with a b tanks same reading (hull rows), le-ltb (length b) (length b) (le-refl (length b)))
     (simp chosen)

@@ -10,6 +10,7 @@ use Rattle.ranges.proofs.Outcomes.{refused-not, refusal-same}
 use Rattle.loading.specs.Promise.{paper, MakesCondition}
 use Rattle.loading.specs.declared.Answer.{Answer}
 use Rattle.loading.specs.declared.Answer.the-variants.{Laden, Refused}
+use Rattle.loading.specs.declared.Reading.{Reading}
 
 pub paper-injective : (a b : Answer) → paper a ≡ paper b → a ≡ b
 paper-injective (Laden c) (Laden d) e = cc
@@ -17,5 +18,5 @@ paper-injective (Laden c) (Refused r) e = refused-not (sym e)
 paper-injective (Refused r) (Laden d) e = refused-not e
 paper-injective (Refused r) (Refused s) e = ap Refused (refusal-same r s e)
 
-pub makes-condition-unique : {least limit : ℕ} {items tanks : List ℤ} {rows : List ℕ} {a b : Answer} → MakesCondition least limit items tanks rows a → MakesCondition least limit items tanks rows b → a ≡ b
+pub makes-condition-unique : {reading : Reading} {least limit : ℕ} {items tanks : List ℤ} {rows : List ℕ} {a b : Answer} → MakesCondition reading least limit items tanks rows a → MakesCondition reading least limit items tanks rows b → a ≡ b
 makes-condition-unique {a = a} {b = b} m n = paper-injective a b (m .answer-is ∙ sym (n .answer-is))

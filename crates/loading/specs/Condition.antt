@@ -13,11 +13,12 @@ use Rattle.ranges.specs.Outside.{firstOutside}
 use Rattle.ranges.specs.Refusals.{outOfRange, wrongSize, tooLight, tooHeavy, contentsAboveCapacity, placeOfItems, placeOfTanks, itemTable, tankTable, rowTable}
 use Rattle.ranges.specs.Sizes.{wholeRecords, itemWidth, tankWidth, rowWidth, mostItems, mostTanks, leastRows, mostRows}
 use Rattle.loading.specs.Load.{Load, weight, verticalMoment, transverseMoment}
-use Rattle.loading.specs.Paper.{paperRules}
+use Rattle.loading.specs.Paper.{paperRules, defaultReading}
 use Rattle.loading.specs.Records.{loadOf}
 use Rattle.loading.specs.Stability.{draft, lcg, freeSurface, km, gm, heelOf, passes}
 use Rattle.loading.specs.Table.{Table, hull, lastRow}
 use Rattle.loading.specs.declared.Condition.{Condition}
+use Rattle.loading.specs.declared.Reading.{Reading}
 
 -- "tanks (one tank's eight numbers for 4, then 13)": from place `place` of the table on
 unfoldable pub tanksFrom : ℕ → List ℤ → Outcome ℕ
@@ -35,35 +36,35 @@ tanksFrom place (contents ∷ capacity ∷ []) = answered place
 tanksFrom place (contents ∷ []) = answered place
 tanksFrom place [] = answered place
 
--- the numbers of a condition
-unfoldable pub conditionAt : Table → Load → Condition
-conditionAt t l = record {
+-- the numbers of a condition, by a reading of KM
+unfoldable pub conditionAt : Reading → Table → Load → Condition
+conditionAt reading t l = record {
   weight = weight l;
   draft = draft t l;
-  km = km paperRules t l;
+  km = km (paperRules reading) t l;
   lcg = lcg l;
   «vertical_moment» = verticalMoment l;
-  «free_surface» = freeSurface paperRules l;
-  gm = gm paperRules t l;
+  «free_surface» = freeSurface (paperRules reading) l;
+  gm = gm (paperRules reading) t l;
   «transverse_moment» = transverseMoment l;
-  heel = heelOf (weight l) (gm paperRules t l) (transverseMoment l);
-  passes = passes (weight l) (gm paperRules t l) (transverseMoment l);
+  heel = heelOf (weight l) (gm (paperRules reading) t l) (transverseMoment l);
+  passes = passes (weight l) (gm (paperRules reading) t l) (transverseMoment l);
 }
 
 -- W against the table: 11 below the first row, 12 above the last
-unfoldable pub floats : Table → Load → Outcome Condition
-floats t l =
+unfoldable pub floats : Reading → Table → Load → Outcome Condition
+floats reading t l =
     if ltb (weight l) (t .first .displacement) then refused tooLight 0
     else if ltb (lastRow t .displacement) (weight l) then refused tooHeavy 0
-    else answered (conditionAt t l)
+    else answered (conditionAt reading t l)
 
 -- "2 to 19 whole rows", by the length of their table
 abbrev pub rowsAllowed : ℕ → Bool
 rowsAllowed count = wholeRecords rowWidth mostRows count && leb leastRows (count / rowWidth)
 
 -- "Condition: 7 (items, tanks, then rows: 2 to 19 whole rows), 10, items, tanks, 11, 12"
-unfoldable pub conditionOf : List ℤ → List ℤ → List ℕ → Outcome Condition
-conditionOf items tanks rows =
+unfoldable pub conditionBy : Reading → List ℤ → List ℤ → List ℕ → Outcome Condition
+conditionBy reading items tanks rows =
     let count = length rows / rowWidth in
     let badItem = firstOutside item items in
     if not (wholeRecords itemWidth mostItems (length items)) then refused wrongSize itemTable
@@ -71,4 +72,8 @@ conditionOf items tanks rows =
     else if not (rowsAllowed (length rows)) then refused wrongSize rowTable
     else andThen (usableUpTo rows count) (λ good.
     if ltb badItem (length items) then refused outOfRange (placeOfItems + badItem)
-    else andThen (tanksFrom 0 tanks) (λ last. floats (hull rows) (loadOf items tanks)))
+    else andThen (tanksFrom 0 tanks) (λ last. floats reading (hull rows) (loadOf items tanks)))
+
+-- where no reading is named
+abbrev pub conditionOf : List ℤ → List ℤ → List ℕ → Outcome Condition
+conditionOf = conditionBy defaultReading

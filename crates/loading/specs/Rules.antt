@@ -6,7 +6,7 @@ use Rattle.loading.specs.Load.{Tank}
 use Rattle.loading.specs.Table.{Place}
 
 -- KM where W falls: in mm, as given, and unrounded
-pub record Reading : Type 0 where
+pub record KMRule : Type 0 where
   pub given : Place → ℕ → ℕ
   pub unrounded : Place → ℕ → Fraction
 
@@ -20,5 +20,5 @@ abbrev pub surfaceOf : Surface → Tank → ℕ
 surfaceOf s t = roundedUp (s .parts t) (s .unit)
 
 pub record Rules : Type 0 where
-  pub reading : Reading
+  pub reading : KMRule
   pub surface : Surface

@@ -4,6 +4,7 @@ ghost use Prim.Native.Nat.{_<_};
 ghost use Rattle.loading.specs.Private.Aboard.{Bearable};
 ghost use Rattle.loading.specs.Private.Afloat.{RowsUsable};
 ghost use Rattle.loading.specs.Items.{itemTotals};
+ghost use Rattle.loading.specs.Paper.{defaultReading};
 ghost use Rattle.loading.specs.Promise.{paper, paperTotals, MakesCondition};
 ghost use Rattle.loading.specs.Private.Steady.{Steady, Loadable, conditionWith, totalsWith, floatsWith, afterItems};
 ghost use Rattle.loading.specs.Table.{tableOf};
@@ -26,6 +27,19 @@ pub enum Heel {
     // With the tangent of the angle.
     Heeled(f64),
     Beyond,
+}
+
+// How KM is read where the weight lies strictly between two rows. At a row's own weight that row's KM stands.
+pub enum Reading {
+    // The lesser KM of the two.
+    Lesser,
+    // On the straight line between them, rounded down.
+    StraightLine,
+}
+
+impl Reading {
+    // The reading of a call that names none.
+    pub const DEFAULT: Reading = Reading::Lesser;
 }
 
 // A loading condition: kg, mm and kg·mm.
@@ -125,9 +139,9 @@ fn rows_allowed(count: usize) -> bool
 }
 
 // What is aboard against the rows: 11 below the first, 12 above the last, and else the condition.
-fn laden(all: Aboard, rows: &[u64], count: usize) -> Answer
+fn laden(reading: Reading, all: Aboard, rows: &[u64], count: usize) -> Answer
     requires { ⌜ Bearable all × RowsUsable (now rows) count ⌝ }
-    ensures { λ r. ⌜ paper r ≡ floatsWith (tableOf (now (rows .entry)) count) all ⌝ }
+    ensures { λ r. ⌜ paper r ≡ floatsWith reading (tableOf (now (rows .entry)) count) all ⌝ }
 {
     let weight = all.weight;
     if weight < rows::displacement_at(rows, 0) {
@@ -136,27 +150,27 @@ fn laden(all: Aboard, rows: &[u64], count: usize) -> Answer
     if rows::displacement_at(rows, count - 1) < weight {
         return refused(Refusal::TOO_HEAVY, 0);
     }
-    let floating = floating::afloat(rows, count, weight);
+    let floating = floating::afloat(reading, rows, count, weight);
     Answer::Laden(Condition::new(all, floating.draft, floating.km))
 }
 
 // What items and tanks bring together, against the rows; each tank is tried before.
-fn loaded(items: &[i64], tanks: &[i64], rows: &[u64], count: usize) -> Answer
+fn loaded(reading: Reading, items: &[i64], tanks: &[i64], rows: &[u64], count: usize) -> Answer
     requires { ⌜ Loadable (now items) (now tanks) (now rows) count ⌝ }
-    ensures { λ r. ⌜ paper r ≡ afterItems (now (items .entry)) (now (tanks .entry)) (tableOf (now (rows .entry)) count) ⌝ }
+    ensures { λ r. ⌜ paper r ≡ afterItems reading (now (items .entry)) (now (tanks .entry)) (tableOf (now (rows .entry)) count) ⌝ }
 {
     match tanks::tanks_aboard(tanks) {
         Trial::Refused(refusal) => Answer::Refused(refusal),
         Trial::Passed(in_tanks) => {
             let all = weights::together(items::items_aboard(items), in_tanks);
-            laden(all, rows, count)
+            laden(reading, all, rows, count)
         }
     }
 }
 
-// The condition of items and tanks over the rows of a hull, or the first refusal in the paper's order.
-pub fn condition_of(items: &[i64], tanks: &[i64], rows: &[u64]) -> Answer
-    ensures { λ r. do l ← ⟦Condition::LEAST_GM⟧ .entry; h ← ⟦Condition::HEEL_LIMIT⟧ .entry; ⌜ MakesCondition l h (now (items .entry)) (now (tanks .entry)) (now (rows .entry)) r ⌝ }
+// The condition of items and tanks over the rows of a hull, by a reading of KM, or the first refusal in the paper's order.
+pub fn condition_by(reading: Reading, items: &[i64], tanks: &[i64], rows: &[u64]) -> Answer
+    ensures { λ r. do l ← ⟦Condition::LEAST_GM⟧ .entry; h ← ⟦Condition::HEEL_LIMIT⟧ .entry; ⌜ MakesCondition reading l h (now (items .entry)) (now (tanks .entry)) (now (rows .entry)) r ⌝ }
 {
     if !ranges::items_fit(items.len()) {
         return refused(Refusal::WRONG_SIZE, Refusal::ITEM_TABLE);
@@ -176,7 +190,14 @@ pub fn condition_of(items: &[i64], tanks: &[i64], rows: &[u64]) -> Answer
     if bad_item < items.len() {
         return refused(Refusal::OUT_OF_RANGE, Refusal::ITEMS_AT + bad_item);
     }
-    loaded(items, tanks, rows, count)
+    loaded(reading, items, tanks, rows, count)
+}
+
+// The same by the default reading.
+pub fn condition_of(items: &[i64], tanks: &[i64], rows: &[u64]) -> Answer
+    ensures { λ r. do l ← ⟦Condition::LEAST_GM⟧ .entry; h ← ⟦Condition::HEEL_LIMIT⟧ .entry; ⌜ MakesCondition defaultReading l h (now (items .entry)) (now (tanks .entry)) (now (rows .entry)) r ⌝ }
+{
+    condition_by(Reading::DEFAULT, items, tanks, rows)
 }
 
 // The totals of what is aboard.

@@ -26,7 +26,7 @@ returns : tie.Need-returns
 returns c =
     let s = c .before .before .before .before in
     ap paper (c .refused .ensures)
-    ∙ sym (too-light (s .args .rows .now) (s .args .count) (omega arith) (s .args .all) (c .before .before .displacement-at .ensures) refl (c .before .if1 .taken))
+    ∙ sym (too-light (s .args .rows .now) (s .args .count) (omega arith) (s .args .all) (c .before .before .displacement-at .ensures) refl _ (c .before .if1 .taken))
 
 sub-displacement-at : tie.Need-sub-displacement-at
 sub-displacement-at c = search needs
@@ -42,7 +42,7 @@ returns-2 c =
     let e = c .before .before .before in
     let s = e .before .before .before in
     ap paper (c .refused2 .ensures)
-    ∙ sym (too-heavy (s .args .rows .now) (s .args .count) (omega arith) (s .args .all) (e .before .displacement-at .ensures) (c .before .before .displacement-at2 .ensures) (e .if1 .left) (c .before .if2 .taken))
+    ∙ sym (too-heavy (s .args .rows .now) (s .args .count) (omega arith) (s .args .all) (e .before .displacement-at .ensures) (c .before .before .displacement-at2 .ensures) (e .if1 .left) _ (c .before .if2 .taken))
 
 afloat-requires : tie.Need-afloat-requires
 afloat-requires c κs =

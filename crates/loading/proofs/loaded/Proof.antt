@@ -36,13 +36,13 @@ laden-requires c κs =
     )
 
 returns : tie.Need-returns
-returns c = after-refused _ _ _ (c .before .before .before .tanks-aboard .ensures) (c .before .refusal .given .1)
+returns c = after-refused _ _ _ _ (c .before .before .before .tanks-aboard .ensures) (c .before .refusal .given .1)
 
 returns-2 : tie.Need-returns-2
 returns-2 c =
     let t = c .before .before .before .before in
     c .laden .ensures
-    ∙ rw (c .before .together .ensures) (after-passed _ _ _ (t .before .before .tanks-aboard .ensures) (t .in-tanks .given .1) (c .before .before .items-aboard .ensures .is))
+    ∙ rw (c .before .together .ensures) (after-passed _ _ _ _ (t .before .before .tanks-aboard .ensures) (t .in-tanks .given .1) (c .before .before .items-aboard .ensures .is))
 
 pub loaded-spec : {M : Type 1} → statement M
 loaded-spec =

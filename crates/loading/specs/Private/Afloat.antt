@@ -14,6 +14,7 @@ use Rattle.ranges.specs.Sizes.{rowWidth, leastRows, mostRows}
 use Rattle.loading.specs.Paper.{paperRules}
 use Rattle.loading.specs.Stability.{kmAt}
 use Rattle.loading.specs.Table.{Table, lastRow, tableOf, placeOf, placeFrom, rowsFrom, draftOf}
+use Rattle.loading.specs.declared.Reading.{Reading}
 use Rattle.loading.specs.declared.floating.Floating.{Floating}
 
 -- "2 to 19 whole rows"
@@ -50,7 +51,7 @@ pub record RowBelow (rows : List ℕ) (count W r : ℕ) : Type 0 where
   pub next-above : r + 1 < count → W < rowIn rows (r + 1) .displacement
   pub falls : placeOf (tableOf rows count) W ≡ placeFrom (rowIn rows r) (rowsFrom rows (r + 1) (count - (r + 1))) W
 
-pub record Floats (rows : List ℕ) (count W : ℕ) (f : Floating) : Type 0 where
+pub record Floats (reading : Reading) (rows : List ℕ) (count W : ℕ) (f : Floating) : Type 0 where
   pub draft : f .draft ≡ draftOf (tableOf rows count) W
-  pub km : f .km ≡ kmAt paperRules (tableOf rows count) W
+  pub km : f .km ≡ kmAt (paperRules reading) (tableOf rows count) W
   pub km-most : f .km ≤ highestMetacentre

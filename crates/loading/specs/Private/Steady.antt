@@ -20,6 +20,7 @@ use Rattle.loading.specs.Table.{Table, lastRow, draftOf}
 use Rattle.loading.specs.declared.Aboard.{Aboard}
 use Rattle.loading.specs.declared.Condition.{Condition}
 use Rattle.loading.specs.declared.Heel.{Heel}
+use Rattle.loading.specs.declared.Reading.{Reading}
 use Rattle.loading.specs.declared.Totals.{Totals}
 
 -- v, or 0 where v is below 0
@@ -68,15 +69,15 @@ pub record Moderate (weight : ℕ) (gm my : ℤ) : Type 0 where
   pub my-most : natAbs my ≤ most yRange * (mostInItems + mostInTanks)
 
 -- what is aboard against a table: 11 below the first row, 12 above the last
-unfoldable pub floatsWith : Table → Aboard → Outcome Condition
-floatsWith t a =
+unfoldable pub floatsWith : Reading → Table → Aboard → Outcome Condition
+floatsWith reading t a =
     if ltb (a .weight) (t .first .displacement) then refused tooLight 0
     else if ltb (lastRow t .displacement) (a .weight) then refused tooHeavy 0
-    else answered (conditionWith a (draftOf t (a .weight)) (kmAt paperRules t (a .weight)))
+    else answered (conditionWith a (draftOf t (a .weight)) (kmAt (paperRules reading) t (a .weight)))
 
 -- once sizes, rows and items are allowed: the tanks, and then the weight
-unfoldable pub afterItems : List ℤ → List ℤ → Table → Outcome Condition
-afterItems items tanks t = andThen (tanksFrom 0 tanks) (λ last. floats t (loadOf items tanks))
+unfoldable pub afterItems : Reading → List ℤ → List ℤ → Table → Outcome Condition
+afterItems reading items tanks t = andThen (tanksFrom 0 tanks) (λ last. floats reading t (loadOf items tanks))
 
 pub record Loadable (items tanks : List ℤ) (rows : List ℕ) (count : ℕ) : Type 0 where
   pub items-fit : ItemsFit items

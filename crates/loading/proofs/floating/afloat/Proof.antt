@@ -1,4 +1,4 @@
--- At a row's own weight that row's draft and KM, and else the straight line to the next. Assumes nothing.
+-- At a row's own weight that row's draft and KM; else the straight line to the next, and KM by its reading. Assumes nothing.
 use mathlib.Core.Path.{_≡_, ap}
 use Prim.Native.Nat.{_/_}
 use native.Mathlib.Omega.{arith}
@@ -24,7 +24,7 @@ unfolding rowIn
 spacing-is c = ap (λ n. n / 2) (c .number-at .ensures)
 
 returns : tie.Need-returns
-returns c = floats-on (found (c .before)) (c .if1 .taken)
+returns c = floats-on (found (c .before)) _ (c .if1 .taken)
 
 add-row-at : tie.Need-add-row-at
 add-row-at c = omega (arith, next-there (found (c .before)) (c .if1 .left))
@@ -40,20 +40,20 @@ on-line-requires c κs =
     let e = c .before .before in
     draft-line (found (e .before)) (e .if1 .left) (c .before .row-at2 .ensures) (spacing-is c)
 
-add-t16 : tie.Need-add-t16
-add-t16 c =
+add-t15 : tie.Need-add-t15
+add-t15 c =
     let e = c .before .before .before in
     omega (arith, draft-fits (found (e .before)) (e .if1 .left) (c .before .before .row-at2 .ensures) (spacing-is (c .before)) (c .on-line .ensures))
 
-on-line-requires-2 : tie.Need-on-line-requires-2
-on-line-requires-2 c κs =
+km-between-requires : tie.Need-km-between-requires
+km-between-requires c κs =
     let e = c .before .before .before in
     km-line (found (e .before)) (e .if1 .left) (c .before .before .row-at2 .ensures)
 
 returns-2 : tie.Need-returns-2
 returns-2 c =
     let e = c .before .before .before .before in
-    floats-between (found (e .before)) (e .if1 .left) (c .before .before .before .row-at2 .ensures) (spacing-is (c .before .before)) (c .before .on-line .ensures) (c .on-line2 .ensures)
+    floats-between (found (e .before)) (e .if1 .left) (c .before .before .before .row-at2 .ensures) (spacing-is (c .before .before)) (c .before .on-line .ensures) _ (c .km-between .ensures)
 
 pub afloat-spec : {M : Type 1} → statement M
 afloat-spec =
@@ -66,6 +66,6 @@ afloat-spec =
     row-at-requires-2
     number-at-requires
     on-line-requires
-    add-t16
-    on-line-requires-2
+    add-t15
+    km-between-requires
     returns-2)

@@ -6,14 +6,15 @@ use Prim.Native.Nat.{ℕ}
 use borrow.Author.Tests.{not-true, not-false}
 use lib.IntN.{ℤ}
 use lib.ListN.{length}
-use Rattle.loading.specs.Condition.{conditionOf}
+use Rattle.loading.specs.Condition.{conditionBy}
 use Rattle.ranges.specs.Sizes.{wholeRecords, itemWidth, tankWidth, mostItems, mostTanks}
 use Rattle.loading.specs.Promise.{paper, MakesCondition}
 use Rattle.loading.specs.declared.Answer.{Answer}
+use Rattle.loading.specs.declared.Reading.{Reading}
 use Rattle.loading.proofs.Order.{Sized, wrong-items, wrong-tanks, wrong-rows, rows-whole, bad-row, bad-item, after-all, loadable}
 use borrow.Author.Needs.{needs}
-use Rattle.loading.proofs.condition_of.Statement.{statement}
-use Rattle.loading.proofs.condition_of.Tie as tie
+use Rattle.loading.proofs.condition_by.Statement.{statement}
+use Rattle.loading.proofs.condition_by.Tie as tie
 
 items-whole : (c : tie.Else1) → wholeRecords itemWidth mostItems (length (c .before .before .before .args .items .now)) ≡ true
 items-whole c = sym (c .before .items-fit .ensures) ∙ not-false _ (c .if1 .left)
@@ -31,7 +32,7 @@ sized c =
     }
 
 -- the two limits are those of the condition's own record
-promised : {items tanks : List ℤ} {rows : List ℕ} {answer : Answer} → paper answer ≡ conditionOf items tanks rows → MakesCondition 150 1_763 items tanks rows answer
+promised : {reading : Reading} {items tanks : List ℤ} {rows : List ℕ} {answer : Answer} → paper answer ≡ conditionBy reading items tanks rows → MakesCondition reading 150 1_763 items tanks rows answer
 promised e = record { least-gm-is = refl; heel-limit-is = refl; answer-is = e }
 
 items-fit-requires : tie.Need-items-fit-requires
@@ -43,7 +44,7 @@ refused-requires c κs = search needs
 returns : tie.Need-returns
 returns c =
     let s = c .before .before .before .before .args in
-    promised (ap paper (c .refused .ensures) ∙ sym (wrong-items (s .items .now) (s .tanks .now) (s .rows .now) (sym (c .before .before .items-fit .ensures) ∙ not-true _ (c .before .if1 .taken))))
+    promised (ap paper (c .refused .ensures) ∙ sym (wrong-items (s .items .now) (s .tanks .now) (s .rows .now) (s .reading) (sym (c .before .before .items-fit .ensures) ∙ not-true _ (c .before .if1 .taken))))
 
 tanks-fit-requires : tie.Need-tanks-fit-requires
 tanks-fit-requires c κs = search needs
@@ -55,7 +56,7 @@ returns-2 : tie.Need-returns-2
 returns-2 c =
     let e = c .before .before .before in
     let s = e .before .before .before .args in
-    promised (ap paper (c .refused2 .ensures) ∙ sym (wrong-tanks (s .items .now) (s .tanks .now) (s .rows .now) (items-whole e) (sym (c .before .before .tanks-fit .ensures) ∙ not-true _ (c .before .if2 .taken))))
+    promised (ap paper (c .refused2 .ensures) ∙ sym (wrong-tanks (s .items .now) (s .tanks .now) (s .rows .now) (s .reading) (items-whole e) (sym (c .before .before .tanks-fit .ensures) ∙ not-true _ (c .before .if2 .taken))))
 
 rows-allowed-requires : tie.Need-rows-allowed-requires
 rows-allowed-requires c κs = search needs
@@ -67,7 +68,7 @@ returns-3 : tie.Need-returns-3
 returns-3 c =
     let e = c .before .before .before in
     let s = e .before .before .before .before .before .args in
-    promised (ap paper (c .refused3 .ensures) ∙ sym (wrong-rows (s .items .now) (s .tanks .now) (s .rows .now) (items-whole (e .before .before)) (tanks-whole e) (sym (c .before .before .rows-allowed .ensures) ∙ not-true _ (c .before .if3 .taken))))
+    promised (ap paper (c .refused3 .ensures) ∙ sym (wrong-rows (s .items .now) (s .tanks .now) (s .rows .now) (s .reading) (items-whole (e .before .before)) (tanks-whole e) (sym (c .before .before .rows-allowed .ensures) ∙ not-true _ (c .before .if3 .taken))))
 
 unusable-row-requires : tie.Need-unusable-row-requires
 unusable-row-requires c κs = rows-whole _ _ _ (sized c)
@@ -79,7 +80,7 @@ returns-4 : tie.Need-returns-4
 returns-4 c =
     let u = c .before .before in
     let s = u .before .before .before .before .before .before .before .before .args in
-    promised (ap paper (c .refused4 .ensures) ∙ sym (bad-row (s .items .now) (s .tanks .now) (s .rows .now) (sized (u .before)) (u .unusable-row .ensures) (c .before .if4 .taken)))
+    promised (ap paper (c .refused4 .ensures) ∙ sym (bad-row (s .items .now) (s .tanks .now) (s .rows .now) (sized (u .before)) (s .reading) (u .unusable-row .ensures) (c .before .if4 .taken)))
 
 item-outside-requires : tie.Need-item-outside-requires
 item-outside-requires c κs = search needs
@@ -95,7 +96,7 @@ returns-5 c =
     let e = c .before .before .before in
     let u = e .before in
     let s = u .before .before .before .before .before .before .before .before .args in
-    promised (ap paper (c .refused5 .ensures) ∙ sym (bad-item (s .items .now) (s .tanks .now) (s .rows .now) (sized (u .before)) (u .unusable-row .ensures) (e .if4 .left) (c .before .before .item-outside .ensures) (c .before .if5 .taken)))
+    promised (ap paper (c .refused5 .ensures) ∙ sym (bad-item (s .items .now) (s .tanks .now) (s .rows .now) (sized (u .before)) (u .unusable-row .ensures) (e .if4 .left) (c .before .before .item-outside .ensures) (s .reading) (c .before .if5 .taken)))
 
 loaded-requires : tie.Need-loaded-requires
 loaded-requires c κs =
@@ -107,10 +108,10 @@ returns-6 c =
     let e = c .before .before .before in
     let u = e .before in
     let s = u .before .before .before .before .before .before .before .before .args in
-    promised (c .loaded .ensures ∙ sym (after-all (s .items .now) (s .tanks .now) (s .rows .now) (sized (u .before)) (u .unusable-row .ensures) (e .if4 .left) (c .before .before .item-outside .ensures) (c .before .if5 .left)))
+    promised (c .loaded .ensures ∙ sym (after-all (s .items .now) (s .tanks .now) (s .rows .now) (sized (u .before)) (u .unusable-row .ensures) (e .if4 .left) (c .before .before .item-outside .ensures) (c .before .if5 .left) (s .reading)))
 
-pub condition-of-spec : {M : Type 1} → statement M
-condition-of-spec =
+pub condition-by-spec : {M : Type 1} → statement M
+condition-by-spec =
     tie.close
     (tie.spec
     items-fit-requires
