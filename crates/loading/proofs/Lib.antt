@@ -27,6 +27,8 @@ pub mod Unique
 pub mod Answers
 pub mod Lowered
 pub mod Demand3
+pub mod ByRow
+pub mod Beside
 pub mod PressedUp
 pub mod Figures
 pub mod Numbered

@@ -11,6 +11,7 @@ pub mod Paper
 pub mod Demand
 pub mod Figures
 pub mod Condition
+pub mod Beside
 pub mod Items
 pub mod Promise
 pub mod Private
