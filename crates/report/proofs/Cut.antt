@@ -15,19 +15,20 @@ use Rattle.arithmetic.proofs.Choice.{chosen}
 use Rattle.offsets.specs.Reader.{readerOf}
 use Rattle.ranges.specs.Refusals.{fileTooLong}
 use Rattle.ranges.specs.Sizes.{longestFile}
+use Rattle.loading.specs.declared.Reading.{Reading}
 use Rattle.report.specs.Lines.{refusalLine}
-use Rattle.report.specs.Sheet.{fileSaid, sheetOf}
+use Rattle.report.specs.Sheet.{fileSaid, sheetBy}
 
-pub long-said : (text : List ℕ) → longestFile < length text → sheetOf text ≡ refusalLine fileTooLong longestFile
-unfolding sheetOf fileSaid readerOf
-long-said text long = simp (lt-ltb longestFile (length text) long, chosen)
+pub long-said : (reading : Reading) (text : List ℕ) → longestFile < length text → sheetBy reading text ≡ refusalLine fileTooLong longestFile
+unfolding sheetBy fileSaid readerOf
+long-said reading text long = simp (lt-ltb longestFile (length text) long, chosen)
 
-pub cut-alike : (text : List ℕ) → sheetOf (take (suc longestFile) text) ≡ sheetOf text
-cut-alike text = by-length (ltb longestFile (length text)) refl
+pub cut-alike : (reading : Reading) (text : List ℕ) → sheetBy reading (take (suc longestFile) text) ≡ sheetBy reading text
+cut-alike reading text = by-length (ltb longestFile (length text)) refl
   where
-    by-length : (long : Bool) → ltb longestFile (length text) ≡ long → sheetOf (take (suc longestFile) text) ≡ sheetOf text
+    by-length : (long : Bool) → ltb longestFile (length text) ≡ long → sheetBy reading (take (suc longestFile) text) ≡ sheetBy reading text
     by-length true e =
         let whole : longestFile < length text = ltb-true _ _ e in
         let front : length (take (suc longestFile) text) ≡ suc longestFile = length-take-le (suc longestFile) text (omega (arith, whole)) in
-        long-said (take (suc longestFile) text) (omega (arith, front)) ∙ sym (long-said text whole)
-    by-length false e = ap sheetOf (take-all (suc longestFile) text (omega (arith, ltb-false longestFile (length text) e)))
+        long-said reading (take (suc longestFile) text) (omega (arith, front)) ∙ sym (long-said reading text whole)
+    by-length false e = ap (sheetBy reading) (take-all (suc longestFile) text (omega (arith, ltb-false longestFile (length text) e)))

@@ -13,16 +13,17 @@ use Rattle.offsets.proofs.Editors.{ReadAs, Editor, edited, edited-alike}
 use Rattle.offsets.specs.File.{Contents}
 use Rattle.ranges.specs.Outcome.{answered}
 use Rattle.ranges.specs.Sizes.{longestFile, roomForHalfBreadths, roomForItems, roomForTanks}
-use Rattle.report.specs.Sheet.{fileSaid, sheetOf}
+use Rattle.loading.specs.declared.Reading.{Reading}
+use Rattle.report.specs.Sheet.{fileSaid, sheetBy}
 
-pub read-said : (text : List ℕ) (c : Contents) → length text ≤ longestFile → ReadAs text c → sheetOf text ≡ fileSaid (answered c)
-unfolding sheetOf
-read-said text c short e =
-    ap fileSaid (past-sizes text roomForHalfBreadths roomForItems roomForTanks (omega arith) (omega arith) (omega arith) short ∙ e)
+pub read-said : (reading : Reading) (text : List ℕ) (c : Contents) → length text ≤ longestFile → ReadAs text c → sheetBy reading text ≡ fileSaid reading (answered c)
+unfolding sheetBy
+read-said reading text c short e =
+    ap (fileSaid reading) (past-sizes text roomForHalfBreadths roomForItems roomForTanks (omega arith) (omega arith) (omega arith) short ∙ e)
 
-pub same-sheet : (text other : List ℕ) (c : Contents) → length text ≤ longestFile → length other ≤ longestFile → ReadAs text c → ReadAs other c → sheetOf other ≡ sheetOf text
-same-sheet text other c short few e o = read-said other c few o ∙ sym (read-said text c short e)
+pub same-sheet : (reading : Reading) (text other : List ℕ) (c : Contents) → length text ≤ longestFile → length other ≤ longestFile → ReadAs text c → ReadAs other c → sheetBy reading other ≡ sheetBy reading text
+same-sheet reading text other c short few e o = read-said reading other c few o ∙ sym (read-said reading text c short e)
 
-pub edited-sheet : {puts : ℕ → List ℕ} → Editor puts → (text : List ℕ) (c : Contents) → length text ≤ longestFile → length (edited puts text) ≤ longestFile
-    → ReadAs text c → sheetOf (edited puts text) ≡ sheetOf text
-edited-sheet {puts} editor text c short few e = same-sheet text (edited puts text) c short few e (edited-alike editor text c e)
+pub edited-sheet : (reading : Reading) {puts : ℕ → List ℕ} → Editor puts → (text : List ℕ) (c : Contents) → length text ≤ longestFile → length (edited puts text) ≤ longestFile
+    → ReadAs text c → sheetBy reading (edited puts text) ≡ sheetBy reading text
+edited-sheet reading {puts} editor text c short few e = same-sheet reading text (edited puts text) c short few e (edited-alike editor text c e)

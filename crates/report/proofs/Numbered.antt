@@ -5,8 +5,9 @@ use Prim.Native.Nat.{ℕ}
 use mathlib.Core.List.{List}
 use Rattle.ranges.specs.Outcome.{Numbered}
 use Rattle.ranges.proofs.Numbered.{numbered}
-use Rattle.report.specs.Promise.{reportOf}
+use Rattle.loading.specs.declared.Reading.{Reading}
+use Rattle.report.specs.Promise.{reportBy}
 
-pub report-numbered : (text : List ℕ) (room : ℕ) → Numbered (reportOf text room)
-unfolding reportOf
-report-numbered text room = search numbered
+pub report-numbered : (reading : Reading) (text : List ℕ) (room : ℕ) → Numbered (reportBy reading text room)
+unfolding reportBy
+report-numbered reading text room = search numbered

@@ -27,11 +27,12 @@ use Rattle.hydrostatics.specs.declared.Rows.{Rows as RowsAnswer}
 use Rattle.hydrostatics.specs.declared.Rows.the-variants as RowsAnswer
 use Rattle.hydrostatics.proofs.Passed.{counted}
 use Rattle.hydrostatics.proofs.Usable.{Served, served}
-use Rattle.loading.specs.Condition.{conditionOf}
+use Rattle.loading.specs.Condition.{conditionBy}
 use Rattle.loading.specs.Promise as Loading
 use Rattle.loading.specs.declared.Answer.{Answer}
 use Rattle.loading.specs.declared.Answer.the-variants as Answer
 use Rattle.loading.specs.declared.Condition.{Condition}
+use Rattle.loading.specs.declared.Reading.{Reading}
 use Rattle.offsets.specs.File.{Contents}
 use Rattle.offsets.specs.Reader as Reader
 use Rattle.offsets.specs.Reader.{Reads, readerOf, summaryOf}
@@ -48,28 +49,28 @@ use Rattle.ranges.specs.declared.Particulars.{Particulars}
 use Rattle.ranges.specs.declared.Refusal.{Refusal}
 use Rattle.ranges.proofs.Outcomes.{answer-same, not-refused, with-refused}
 use Rattle.report.specs.Lines.{conditionLine, refusalLine}
-use Rattle.report.specs.Promise.{reportOf, Reports}
+use Rattle.report.specs.Promise.{reportBy, Reports}
 use Rattle.report.specs.Private.Putting.{Ready, Puts, WholeRows, longestSheet, mostConditionLine, mostRefusalLine, mostRowLine}
-use Rattle.report.specs.Sheet.{rowLines, conditionSaid, rowsSaid, fileSaid, sheetOf}
+use Rattle.report.specs.Sheet.{rowLines, conditionSaid, rowsSaid, fileSaid, sheetBy}
 use Rattle.report.specs.declared.Report.{Report}
 use Rattle.report.specs.declared.Report.the-variants.{Lines, Refused}
 use Rattle.report.proofs.Pieces.{puts-both, puts-le}
 use Rattle.report.proofs.Unique.{paper-injective}
 
 -- ---- the condition
-module _ (rows : List ℕ) (count : ℕ) (items tanks : List ℤ) {was mid end : List ℕ} {next last : ℕ}
+module _ (reading : Reading) (rows : List ℕ) (count : ℕ) (items tanks : List ℤ) {was mid end : List ℕ} {next last : ℕ}
     (ready : Ready longestSheet was 0)
     (whole : WholeRows rows count)
     (lines : Puts (mostRowLine * count) (rowLines rows 0 count) was 0 mid next)
     {answer : Answer}
-    (is : Loading.paper answer ≡ conditionOf items tanks rows) where
-  pub load-refused : {f : Refusal} → answer ≡ Answer.Refused f → Puts mostRefusalLine (refusalLine (f .number) (f .place)) mid next end last → Puts longestSheet (rowLines rows 0 count ++ conditionSaid (conditionOf items tanks rows)) was 0 end last
+    (is : Loading.paper answer ≡ conditionBy reading items tanks rows) where
+  pub load-refused : {f : Refusal} → answer ≡ Answer.Refused f → Puts mostRefusalLine (refusalLine (f .number) (f .place)) mid next end last → Puts longestSheet (rowLines rows 0 count ++ conditionSaid (conditionBy reading items tanks rows)) was 0 end last
   unfolding conditionSaid
   load-refused {f} e line =
       rw (sym is ∙ ap Loading.paper e)
       (puts-le (puts-both lines (omega (arith, ready .room, whole .most)) line) longestSheet (omega (arith, whole .most)))
 
-  pub load-laden : {c : Condition} → answer ≡ Answer.Laden c → Puts mostConditionLine (conditionLine c) mid next end last → Puts longestSheet (rowLines rows 0 count ++ conditionSaid (conditionOf items tanks rows)) was 0 end last
+  pub load-laden : {c : Condition} → answer ≡ Answer.Laden c → Puts mostConditionLine (conditionLine c) mid next end last → Puts longestSheet (rowLines rows 0 count ++ conditionSaid (conditionBy reading items tanks rows)) was 0 end last
   unfolding conditionSaid
   load-laden {c} e line =
       rw (sym is ∙ ap Loading.paper e)
@@ -82,9 +83,9 @@ pub record Made (table : List ℕ) (p : Particulars) (after : List ℕ) (count :
   pub whole : WholeRows (take (rowWidth * count) after) count
 
 module _ {table : List ℕ} {p : Particulars} {rows after : List ℕ} {answer : RowsAnswer} (long : length rows ≡ roomForRows) (makes : MakesRows table p rows after answer) where
-  pub hull-refused : (items tanks : List ℤ) {f : Refusal} {was end : List ℕ} {last : ℕ} → answer ≡ RowsAnswer.Refused f → Puts mostRefusalLine (refusalLine (f .number) (f .place)) was 0 end last → Puts longestSheet (rowsSaid items tanks (rowsOf table p roomForRows)) was 0 end last
+  pub hull-refused : (reading : Reading) (items tanks : List ℤ) {f : Refusal} {was end : List ℕ} {last : ℕ} → answer ≡ RowsAnswer.Refused f → Puts mostRefusalLine (refusalLine (f .number) (f .place)) was 0 end last → Puts longestSheet (rowsSaid reading items tanks (rowsOf table p roomForRows)) was 0 end last
   unfolding rowsSaid
-  hull-refused items tanks e line =
+  hull-refused reading items tanks e line =
       let so = with-refused rowCount (rowsOf table p (length rows)) (sym (makes .answer-is) ∙ ap Rows.paper e) in
       rw (ap (rowsOf table p) (sym long) ∙ so) (puts-le line longestSheet (omega arith))
 
@@ -102,9 +103,9 @@ module _ {table : List ℕ} {p : Particulars} {rows after : List ℕ} {answer : 
         whole = record { whole = ap length front ∙ size; most = omega (arith, good .most, same) };
       })
 
-  pub hull-made : (items tanks : List ℤ) {count : ℕ} {was end : List ℕ} {last : ℕ} → Made table p after count → Puts longestSheet (rowLines (take (rowWidth * count) after) 0 count ++ conditionSaid (conditionOf items tanks (take (rowWidth * count) after))) was 0 end last → Puts longestSheet (rowsSaid items tanks (rowsOf table p roomForRows)) was 0 end last
+  pub hull-made : (reading : Reading) (items tanks : List ℤ) {count : ℕ} {was end : List ℕ} {last : ℕ} → Made table p after count → Puts longestSheet (rowLines (take (rowWidth * count) after) 0 count ++ conditionSaid (conditionBy reading items tanks (take (rowWidth * count) after))) was 0 end last → Puts longestSheet (rowsSaid reading items tanks (rowsOf table p roomForRows)) was 0 end last
   unfolding rowsSaid
-  hull-made items tanks {count} made lines =
+  hull-made reading items tanks {count} made lines =
       let counts : length (take (rowWidth * count) after) / rowWidth ≡ count = ap (λ n. n / rowWidth) (made .whole .whole) ∙ omega arith in
       rw (made .is, counts) lines
 
@@ -129,9 +130,9 @@ module _ {text h₀ h : List ℕ} {i₀ i t₀ t : List ℤ} {answer : ReadAnswe
   read-is : readerOf text (length h₀) (length i₀) (length t₀) ≡ readerOf text roomForHalfBreadths roomForItems roomForTanks
   read-is = rw (halves, items, tanks)
 
-  pub file-refused : {f : Refusal} {was end : List ℕ} {last : ℕ} → answer ≡ ReadAnswer.Refused f → Puts mostRefusalLine (refusalLine (f .number) (f .place)) was 0 end last → Puts longestSheet (sheetOf text) was 0 end last
-  unfolding sheetOf fileSaid
-  file-refused e line =
+  pub file-refused : (reading : Reading) {f : Refusal} {was end : List ℕ} {last : ℕ} → answer ≡ ReadAnswer.Refused f → Puts mostRefusalLine (refusalLine (f .number) (f .place)) was 0 end last → Puts longestSheet (sheetBy reading text) was 0 end last
+  unfolding sheetBy fileSaid
+  file-refused reading e line =
       let so = with-refused summaryOf (readerOf text (length h₀) (length i₀) (length t₀)) (sym (reads .answer-is) ∙ ap Reader.paper e) in
       rw (sym read-is ∙ so) (puts-le line longestSheet (omega arith))
 
@@ -155,69 +156,69 @@ module _ {text h₀ h : List ℕ} {i₀ i t₀ t : List ℤ} {answer : ReadAnswe
       })
 
   pub file-read :
-      {s : Summary} {was end : List ℕ} {last : ℕ}
+      (reading : Reading) {s : Summary} {was end : List ℕ} {last : ℕ}
       → Whole-read text h i t s
-      → Puts longestSheet (rowsSaid (itemsRead s i) (tanksRead s t) (rowsOf (halfBreadthsRead s h) (s .particulars) roomForRows)) was 0 end last
-      → Puts longestSheet (sheetOf text) was 0 end last
-  unfolding sheetOf fileSaid
-  file-read {s} w lines = rw (w .is) (rw (w .items-front, w .tanks-front, w .grid-front, w .summary-is) at lines)
+      → Puts longestSheet (rowsSaid reading (itemsRead s i) (tanksRead s t) (rowsOf (halfBreadthsRead s h) (s .particulars) roomForRows)) was 0 end last
+      → Puts longestSheet (sheetBy reading text) was 0 end last
+  unfolding sheetBy fileSaid
+  file-read reading {s} w lines = rw (w .is) (rw (w .items-front, w .tanks-front, w .grid-front, w .summary-is) at lines)
 
 -- ---- the lent room
-module _ (text : List ℕ) {lines after : List ℕ} {n : ℕ} (put : Puts longestSheet (sheetOf text) lines 0 after n) where
-  length-is : n ≡ length (sheetOf text)
+module _ (reading : Reading) (text : List ℕ) {lines after : List ℕ} {n : ℕ} (put : Puts longestSheet (sheetBy reading text) lines 0 after n) where
+  length-is : n ≡ length (sheetBy reading text)
   length-is = put .next-is ∙ omega arith
 
-  pub report-short : (room : List ℕ) → length room < n → Reports text room room (Refused (record { number = roomTooShort; place = n }))
-  unfolding reportOf
+  pub report-short : (room : List ℕ) → length room < n → Reports reading text room room (Refused (record { number = roomTooShort; place = n }))
+  unfolding reportBy
   report-short room h =
-      let short : length room < length (sheetOf text) = omega (arith, length-is) in
+      let short : length room < length (sheetBy reading text) = omega (arith, length-is) in
       record {
-        answer-is = rw length-is (simp (lt-ltb (length room) (length (sheetOf text)) short, chosen));
-        left = sym (laid-short (sheetOf text) room short);
+        answer-is = rw length-is (simp (lt-ltb (length room) (length (sheetBy reading text)) short, chosen));
+        left = sym (laid-short (sheetBy reading text) room short);
       }
 
-  front : take n after ≡ sheetOf text
-  front = ap (take n) (put .left) ∙ take-at (sheetOf text) (drop n lines) n (sym length-is)
+  front : take n after ≡ sheetBy reading text
+  front = ap (take n) (put .left) ∙ take-at (sheetBy reading text) (drop n lines) n (sym length-is)
 
   -- the lines were copied into the room
   pub report-fits :
       (room left : List ℕ)
       → n ≤ length room
       → left ≡ take (length (take n after)) (take n after) ++ drop (length (take n after)) room
-      → Reports text room left (Lines n)
-  unfolding reportOf
+      → Reports reading text room left (Lines n)
+  unfolding reportBy
   report-fits room left h e =
-      let fits : length (sheetOf text) ≤ length room = omega (arith, length-is) in
+      let fits : length (sheetBy reading text) ≤ length room = omega (arith, length-is) in
       record {
-        answer-is = rw length-is (simp (le-ltb (length room) (length (sheetOf text)) fits, chosen));
+        answer-is = rw length-is (simp (le-ltb (length room) (length (sheetBy reading text)) fits, chosen));
         left =
             e ∙ ap (λ l. take (length l) l ++ drop (length l) room) front
-            ∙ ap (λ l. l ++ drop (length (sheetOf text)) room) (take-length (sheetOf text))
-            ∙ sym (laid-fits (sheetOf text) room fits);
+            ∙ ap (λ l. l ++ drop (length (sheetBy reading text)) room) (take-length (sheetBy reading text))
+            ∙ sym (laid-fits (sheetBy reading text) room fits);
       }
 
 -- the lines were put straight into room for any sheet
-pub report-straight : {text room left : List ℕ} {n : ℕ} → Puts longestSheet (sheetOf text) room 0 left n → longestSheet ≤ length room → Reports text room left (Lines n)
-unfolding reportOf
-report-straight {text} {room} {n = n} put big =
-    let count-is : n ≡ length (sheetOf text) = put .next-is ∙ omega arith in
-    let fits : length (sheetOf text) ≤ length room = omega (arith, put .few) in
+pub report-straight : {reading : Reading} {text room left : List ℕ} {n : ℕ} → Puts longestSheet (sheetBy reading text) room 0 left n → longestSheet ≤ length room → Reports reading text room left (Lines n)
+unfolding reportBy
+report-straight {reading} {text} {room} {n = n} put big =
+    let count-is : n ≡ length (sheetBy reading text) = put .next-is ∙ omega arith in
+    let fits : length (sheetBy reading text) ≤ length room = omega (arith, put .few) in
     record {
-      answer-is = rw count-is (simp (le-ltb (length room) (length (sheetOf text)) fits, chosen));
-      left = put .left ∙ rw count-is (sym (laid-fits (sheetOf text) room fits));
+      answer-is = rw count-is (simp (le-ltb (length room) (length (sheetBy reading text)) fits, chosen));
+      left = put .left ∙ rw count-is (sym (laid-fits (sheetBy reading text) room fits));
     }
 
 -- the lines lie in the room that they were put into
-pub lines-within : {text room left : List ℕ} {n : ℕ} → Reports text room left (Lines n) → n ≤ length room
-unfolding reportOf
-lines-within {text} {room} reports =
-    let fits = not-refused roomTooShort (length (sheetOf text)) (sym (reports .answer-is)) in
-    let same : length (sheetOf text) ≡ _ = answer-same (fits .1) in
-    omega (arith, ltb-false (length room) (length (sheetOf text)) (fits .0), same)
+pub lines-within : {reading : Reading} {text room left : List ℕ} {n : ℕ} → Reports reading text room left (Lines n) → n ≤ length room
+unfolding reportBy
+lines-within {reading} {text} {room} reports =
+    let fits = not-refused roomTooShort (length (sheetBy reading text)) (sym (reports .answer-is)) in
+    let same : length (sheetBy reading text) ≡ _ = answer-same (fits .1) in
+    omega (arith, ltb-false (length room) (length (sheetBy reading text)) (fits .0), same)
 
 -- and room for the longest sheet is never too short
-pub never-short : {text room left : List ℕ} {answer : Report} → Reports text room left answer → length (sheetOf text) ≤ length room → answer ≡ Lines (length (sheetOf text))
-unfolding reportOf
-never-short {text} {room} {answer = answer} reports h =
-    paper-injective answer (Lines (length (sheetOf text)))
-    (reports .answer-is ∙ simp (le-ltb (length room) (length (sheetOf text)) h, chosen))
+pub never-short : {reading : Reading} {text room left : List ℕ} {answer : Report} → Reports reading text room left answer → length (sheetBy reading text) ≤ length room → answer ≡ Lines (length (sheetBy reading text))
+unfolding reportBy
+never-short {reading} {text} {room} {answer = answer} reports h =
+    paper-injective answer (Lines (length (sheetBy reading text)))
+    (reports .answer-is ∙ simp (le-ltb (length room) (length (sheetBy reading text)) h, chosen))

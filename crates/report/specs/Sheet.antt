@@ -5,8 +5,10 @@ use lib.IntN.{ℤ, natAbs}
 use lib.ListN.{length}
 use Rattle.hydrostatics.specs.Rows.{rowsOf}
 use Rattle.hydrostatics.specs.Usable.{rowIn}
-use Rattle.loading.specs.Condition.{conditionOf}
+use Rattle.loading.specs.Condition.{conditionBy}
+use Rattle.loading.specs.Paper.{defaultReading}
 use Rattle.loading.specs.declared.Condition.{Condition}
+use Rattle.loading.specs.declared.Reading.{Reading}
 use Rattle.offsets.specs.File.{Contents}
 use Rattle.offsets.specs.Reader.{readerOf}
 use Rattle.ranges.specs.Outcome.{Outcome, answered, refused}
@@ -25,13 +27,18 @@ conditionSaid (answered c) = conditionLine c
 conditionSaid (refused number place) = refusalLine number place
 
 -- the R lines and what follows them, or the E line
-unfoldable pub rowsSaid : List ℤ → List ℤ → Outcome (List ℕ) → List ℕ
-rowsSaid items tanks (answered rows) = rowLines rows 0 (length rows / rowWidth) ++ conditionSaid (conditionOf items tanks rows)
-rowsSaid items tanks (refused number place) = refusalLine number place
+unfoldable pub rowsSaid : Reading → List ℤ → List ℤ → Outcome (List ℕ) → List ℕ
+rowsSaid reading items tanks (answered rows) = rowLines rows 0 (length rows / rowWidth) ++ conditionSaid (conditionBy reading items tanks rows)
+rowsSaid reading items tanks (refused number place) = refusalLine number place
 
-unfoldable pub fileSaid : Outcome Contents → List ℕ
-fileSaid (answered c) = rowsSaid (c .items) (c .tanks) (rowsOf (map natAbs (c .halfBreadths)) (particularsOf (c .hull)) roomForRows)
-fileSaid (refused number place) = refusalLine number place
+unfoldable pub fileSaid : Reading → Outcome Contents → List ℕ
+fileSaid reading (answered c) = rowsSaid reading (c .items) (c .tanks) (rowsOf (map natAbs (c .halfBreadths)) (particularsOf (c .hull)) roomForRows)
+fileSaid reading (refused number place) = refusalLine number place
 
-unfoldable pub sheetOf : List ℕ → List ℕ
-sheetOf text = fileSaid (readerOf text roomForHalfBreadths roomForItems roomForTanks)
+-- by a reading of KM
+unfoldable pub sheetBy : Reading → List ℕ → List ℕ
+sheetBy reading text = fileSaid reading (readerOf text roomForHalfBreadths roomForItems roomForTanks)
+
+-- where no reading is named
+abbrev pub sheetOf : List ℕ → List ℕ
+sheetOf = sheetBy defaultReading

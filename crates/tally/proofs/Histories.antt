@@ -27,6 +27,7 @@ use Rattle.ranges.specs.Refusals.{noSuchSlot, slotEmpty, tallyUnsound}
 use Rattle.ranges.specs.Sizes.{itemWidth}
 use Rattle.ranges.proofs.Outcomes.{answer-same, not-refused}
 use Rattle.loading.specs.Condition.{conditionOf}
+use Rattle.loading.specs.Paper.{defaultReading}
 use Rattle.loading.proofs.SameTotals.{condition-same}
 use Rattle.tally.specs.Condition.{conditionAboard}
 use Rattle.tally.specs.History.{Step, load, discharge, shift, taken, Line, isListed, struck, moved, entered, itemsOn, unlessRefused, through, tallyAfter, listAfter, answerAfter, listAnswerAfter}
@@ -117,7 +118,7 @@ module _ {list : List Line} {t : Tally} (tells : Tells list t) where
       let a : List ℤ = tableOf (aboard (t .slots)) in
       let b : List ℤ = tableOf (itemsOn list) in
       simp (sound-told, chosen)
-      (condition-same a b tanks rows
+      (condition-same defaultReading a b tanks rows
       (figure-told count-any-order)
       (eqb-true (firstOutside item a) (length a) (tells .in-range))
       (eqb-true (firstOutside item b) (length b) (sym (figure-told range-any-order) ∙ tells .in-range))

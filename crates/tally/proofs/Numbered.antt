@@ -7,6 +7,7 @@ use Prim.Native.Nat.{ℕ}
 use lib.IntN.{ℤ}
 use Rattle.ranges.specs.Outcome.{Numbered}
 use Rattle.ranges.proofs.Numbered.{numbered}
+use Rattle.loading.specs.Paper.{defaultReading}
 use Rattle.loading.proofs.Numbered as Loading
 use Rattle.tally.specs.Condition.{conditionAboard}
 use Rattle.tally.specs.Steps.{loads, discharges, shifts}
@@ -30,4 +31,4 @@ shifts-numbered slot p t = search numbered depth 7
 pub condition-numbered : (t : Tally) (tanks : List ℤ) (rows : List ℕ) → Numbered (conditionAboard t tanks rows)
 unfolding conditionAboard
 condition-numbered t tanks rows =
-    let of-items = Loading.condition-numbered (tableOf (aboard (t .slots))) tanks rows in search numbered
+    let of-items = Loading.condition-numbered defaultReading (tableOf (aboard (t .slots))) tanks rows in search numbered

@@ -14,7 +14,7 @@ put-sheet-requires : tie.Need-put-sheet-requires
 put-sheet-requires c κs = search needs
 
 returns : tie.Need-returns
-returns c = (report-short (c .before .before .before .before .before .before .args .text .now) (c .before .before .put-sheet .ensures) _ (c .if1 .taken), c .before .before .put-sheet .ensures .few)
+returns c = (report-short _ (c .before .before .before .before .before .before .args .text .now) (c .before .before .put-sheet .ensures) _ (c .if1 .taken), c .before .before .put-sheet .ensures .few)
 
 array-share-prefix-lines : tie.Need-array-share-prefix-lines
 array-share-prefix-lines c = search needs
@@ -29,7 +29,7 @@ same-length : tie.Need-same-length
 same-length c = search needs
 
 returns-2 : tie.Need-returns-2
-returns-2 c = (report-fits (c .before .before .before .before .before .before .before .before .before .before .before .args .text .now) (c .before .before .before .before .before .before .before .put-sheet .ensures) _ _ (c .before .before .before .before .before .if1 .left) (c .before .before .copy .ensures .1), c .before .before .before .before .before .before .before .put-sheet .ensures .few)
+returns-2 c = (report-fits _ (c .before .before .before .before .before .before .before .before .before .before .before .args .text .now) (c .before .before .before .before .before .before .before .put-sheet .ensures) _ _ (c .before .before .before .before .before .if1 .left) (c .before .before .copy .ensures .1), c .before .before .before .before .before .before .before .put-sheet .ensures .few)
 
 pub make-apart-spec : {M : Type 1} → statement M
 make-apart-spec =

@@ -43,7 +43,7 @@ same-length c = search needs
 returns : tie.Need-returns
 returns c =
     let a = c .before .before .before .before .before .before .before .before .before .before .before .before in
-    hull-refused refl (c .before .before .before .before .before .before .before .before .make-rows .ensures) (a .args .items .now) (a .args .tanks .now) (c .before .before .before .before .before .refusal .given .1) (c .before .before .put-refusal .ensures)
+    hull-refused refl (c .before .before .before .before .before .before .before .before .make-rows .ensures) (a .args .reading) (a .args .items .now) (a .args .tanks .now) (c .before .before .before .before .before .refusal .given .1) (c .before .before .put-refusal .ensures)
 
 same-length-2 : tie.Need-same-length-2
 same-length-2 c = search needs
@@ -51,7 +51,7 @@ same-length-2 c = search needs
 returns-2 : tie.Need-returns-2
 returns-2 c =
     let a = c .before .before .before .before .before .before .before .before .before .before .before .before .before in
-    hull-made refl (c .before .before .before .before .before .before .before .before .before .make-rows .ensures) (a .args .items .now) (a .args .tanks .now) (made (c .before .before .before .before .before .before)) (c .before .before .put-load .ensures)
+    hull-made refl (c .before .before .before .before .before .before .before .before .before .make-rows .ensures) (a .args .reading) (a .args .items .now) (a .args .tanks .now) (made (c .before .before .before .before .before .before)) (c .before .before .put-load .ensures)
 
 pub put-hull-spec : {M : Type 1} → statement M
 put-hull-spec =

@@ -7,8 +7,8 @@ use Rattle.report.proofs.sheet.put_load.Tie as tie
 put-rows-requires : tie.Need-put-rows-requires
 put-rows-requires c κs = search needs
 
-condition-of-requires : tie.Need-condition-of-requires
-condition-of-requires c κs = search needs
+condition-by-requires : tie.Need-condition-by-requires
+condition-by-requires c κs = search needs
 
 enum-known-refusal : tie.Need-enum-known-refusal
 enum-known-refusal c = search needs
@@ -28,7 +28,7 @@ same-length c = search needs
 returns : tie.Need-returns
 returns c =
     let a = c .before .before .before .before .before .before .before .before .before .before .before .before .before .before in
-    load-refused (a .args .rows .now) (a .args .count) (a .args .items .now) (a .args .tanks .now) (a .pre .0) (a .pre .1) (c .before .before .before .before .before .before .before .before .before .before .put-rows .ensures) (c .before .before .before .before .before .before .before .condition-of .ensures .answer-is) (c .before .before .before .before .before .refusal .given .1) (c .before .before .put-refusal .ensures)
+    load-refused (a .args .reading) (a .args .rows .now) (a .args .count) (a .args .items .now) (a .args .tanks .now) (a .pre .0) (a .pre .1) (c .before .before .before .before .before .before .before .before .before .before .put-rows .ensures) (c .before .before .before .before .before .before .before .condition-by .ensures .answer-is) (c .before .before .before .before .before .refusal .given .1) (c .before .before .put-refusal .ensures)
 
 same-length-2 : tie.Need-same-length-2
 same-length-2 c = search needs
@@ -36,14 +36,14 @@ same-length-2 c = search needs
 returns-2 : tie.Need-returns-2
 returns-2 c =
     let a = c .before .before .before .before .before .before .before .before .before .before .before .before .before .before in
-    load-laden (a .args .rows .now) (a .args .count) (a .args .items .now) (a .args .tanks .now) (a .pre .0) (a .pre .1) (c .before .before .before .before .before .before .before .before .before .before .put-rows .ensures) (c .before .before .before .before .before .before .before .condition-of .ensures .answer-is) (c .before .before .before .before .before .condition .given .1) (c .before .before .put-condition .ensures)
+    load-laden (a .args .reading) (a .args .rows .now) (a .args .count) (a .args .items .now) (a .args .tanks .now) (a .pre .0) (a .pre .1) (c .before .before .before .before .before .before .before .before .before .before .put-rows .ensures) (c .before .before .before .before .before .before .before .condition-by .ensures .answer-is) (c .before .before .before .before .before .condition .given .1) (c .before .before .put-condition .ensures)
 
 pub put-load-spec : {M : Type 1} → statement M
 put-load-spec =
     tie.close
     (tie.spec
     put-rows-requires
-    condition-of-requires
+    condition-by-requires
     enum-known-refusal
     put-refusal-requires
     enum-known-condition

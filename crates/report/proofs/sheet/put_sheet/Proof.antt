@@ -71,13 +71,13 @@ same-length : tie.Need-same-length
 same-length c = search needs
 
 returns : tie.Need-returns
-returns c = file-refused refl refl refl (c .before .before .before .before .before .before .before .before .before .before .read-file .ensures) (c .before .before .before .before .before .refusal .given .1) (c .before .before .put-refusal .ensures)
+returns c = file-refused refl refl refl (c .before .before .before .before .before .before .before .before .before .before .read-file .ensures) _ (c .before .before .before .before .before .refusal .given .1) (c .before .before .put-refusal .ensures)
 
 same-length-2 : tie.Need-same-length-2
 same-length-2 c = search needs
 
 returns-2 : tie.Need-returns-2
-returns-2 c = file-read refl refl refl (c .before .before .before .before .before .before .before .before .before .before .before .before .before .before .before .before .before .before .read-file .ensures) (told (c .before .before .before .before .before .before .before .before .before .before .before .before .before)) (c .before .before .put-hull .ensures)
+returns-2 c = file-read refl refl refl (c .before .before .before .before .before .before .before .before .before .before .before .before .before .before .before .before .before .before .read-file .ensures) _ (told (c .before .before .before .before .before .before .before .before .before .before .before .before .before)) (c .before .before .put-hull .ensures)
 
 pub put-sheet-spec : {M : Type 1} → statement M
 put-sheet-spec =

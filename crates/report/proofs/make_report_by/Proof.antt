@@ -1,8 +1,8 @@
 -- Room for any sheet is never too short, so that the lines can be put straight into it. Assumes nothing.
 use borrow.Author.Needs.{needs}
 use Rattle.report.proofs.Sheets.{report-straight}
-use Rattle.report.proofs.make_report.Statement.{statement}
-use Rattle.report.proofs.make_report.Tie as tie
+use Rattle.report.proofs.make_report_by.Statement.{statement}
+use Rattle.report.proofs.make_report_by.Tie as tie
 
 put-sheet-requires : tie.Need-put-sheet-requires
 put-sheet-requires c κs = search needs
@@ -24,7 +24,7 @@ same-length-2 c = search needs
 returns-2 : tie.Need-returns-2
 returns-2 c = search needs
 
-pub make-report-spec : {M : Type 1} → statement M
-make-report-spec =
+pub make-report-by-spec : {M : Type 1} → statement M
+make-report-by-spec =
     tie.close
     (tie.spec put-sheet-requires same-length returns make-apart-requires same-length-2 returns-2)
