@@ -6,6 +6,10 @@
  * No call has a condition on its numbers, lengths or bytes. What C owes: each pointer is valid for its length (for a
  * length of 0 it is still not null) and aligned for its type, and what is lent for writing overlaps nothing else lent.
  * Nothing is allocated, kept or locked: calls may run side by side on tables of their own.
+ *
+ * KM where the weight lies strictly between two rows is the lesser of the rows' two; at a row's own weight it is that
+ * row's. The calls named straight_line read it on the straight line between the two, rounded down, as sheets did before:
+ * for yards that compare. Nothing else differs, and theirs is never the lower GM.
  */
 #ifndef RUGULOSCA_H
 #define RUGULOSCA_H
@@ -50,6 +54,10 @@ uint64_t rugulosca_report(const uint8_t *text, size_t text_length,
                           uint8_t *room, size_t room_length,
                           size_t *count, size_t *place);
 
+uint64_t rugulosca_report_straight_line(const uint8_t *text, size_t text_length,
+                                        uint8_t *room, size_t room_length,
+                                        size_t *count, size_t *place);
+
 /* Reads an offset file: numbers of up to nine digits, leading zeros counted, between spaces, tabs and line ends.
  * `summary`: the five particulars, the count of items, the count of tanks. */
 uint64_t rugulosca_read(const uint8_t *text, size_t text_length,
@@ -84,6 +92,12 @@ uint64_t rugulosca_condition(const int64_t *items, size_t items_length,
                              uint64_t wholes[8], int64_t signed_numbers[2],
                              double *tangent, size_t *place);
 
+uint64_t rugulosca_condition_straight_line(const int64_t *items, size_t items_length,
+                                           const int64_t *tanks, size_t tanks_length,
+                                           const uint64_t *rows, size_t rows_length,
+                                           uint64_t wholes[8], int64_t signed_numbers[2],
+                                           double *tangent, size_t *place);
+
 /* A step of a tally: loads an item (kg, x, y, z) into an empty slot, discharges a slot, shifts a slot's item to a new
  * place (x, y, z). An answer leaves the tally after it, each filled slot marked by 1, a freed one all zeros. A tally that
  * is handed in with a filled slot out of range, or with totals that are not its items', is refused first of all, with 22
@@ -97,7 +111,8 @@ uint64_t rugulosca_discharge(int64_t slots[160], uint64_t totals[3], int64_t *tr
 uint64_t rugulosca_shift(int64_t slots[160], uint64_t totals[3], int64_t *transverse,
                          size_t slot, const int64_t to[3], size_t *place);
 
-/* The loading condition of the items aboard: 22, and then all that `rugulosca_condition` tries, whose values it leaves. */
+/* The loading condition of the items aboard, by the lesser KM: 22, and then all that `rugulosca_condition` tries, whose
+ * values it leaves. */
 uint64_t rugulosca_condition_aboard(const int64_t slots[160], const uint64_t totals[3], int64_t transverse,
                                     const int64_t *tanks, size_t tanks_length,
                                     const uint64_t *rows, size_t rows_length,

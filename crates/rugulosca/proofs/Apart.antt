@@ -21,7 +21,8 @@ use Rattle.hydrostatics.specs.Promise.{rowCount, countOf}
 use Rattle.hydrostatics.specs.Rows.{rowsOf}
 use Rattle.hydrostatics.specs.declared.Row.{Row}
 use Rattle.hydrostatics.proofs.Numbered.{rows-numbered, display-numbered}
-use Rattle.loading.specs.Condition.{conditionOf}
+use Rattle.loading.specs.Condition.{conditionBy}
+use Rattle.loading.specs.declared.Reading.{Reading}
 use Rattle.loading.proofs.Numbered.{condition-numbered}
 use Rattle.tally.specs.Condition.{conditionAboard}
 use Rattle.tally.specs.Steps.{loads, discharges, shifts}
@@ -29,7 +30,7 @@ use Rattle.tally.specs.declared.Item.{Item}
 use Rattle.tally.specs.declared.Place.{Place}
 use Rattle.tally.specs.declared.Tally.{Tally}
 use Rattle.tally.proofs.Numbered as Tally
-use Rattle.report.specs.Promise.{reportOf}
+use Rattle.report.specs.Promise.{reportBy}
 use Rattle.report.proofs.Numbered.{report-numbered}
 use Rattle.rugulosca.specs.Panel.{Kept, keptOf}
 use Rattle.rugulosca.specs.Told.{numberOf, Tells, Apart, summaryNumbers, figureNumbers, wholesOf}
@@ -47,8 +48,8 @@ apart {number} h t = record {
 
 -- ---- the calls
 module _ {place placeLeft number : ℕ} where
-  pub report-apart : (text : List ℕ) (room : ℕ) {was left : ℕ} → Tells (λ n. n) (reportOf text room) was left place placeLeft number → Apart (reportOf text room) number
-  report-apart text room t = apart (report-numbered text room) t
+  pub report-apart : (reading : Reading) (text : List ℕ) (room : ℕ) {was left : ℕ} → Tells (λ n. n) (reportBy reading text room) was left place placeLeft number → Apart (reportBy reading text room) number
+  report-apart reading text room t = apart (report-numbered reading text room) t
 
   pub read-apart : (text : List ℕ) (halfBreadths items tanks : ℕ) {was left : List ℕ}
       → Tells summaryNumbers (summarised (readerOf text halfBreadths items tanks)) was left place placeLeft number → Apart (summarised (readerOf text halfBreadths items tanks)) number
@@ -65,9 +66,9 @@ module _ {place placeLeft number : ℕ} where
   pub display-apart : (row : Row) {was left : List Float} → Tells figureNumbers (displayOf row) was left place placeLeft number → Apart (displayOf row) number
   display-apart row t = apart (display-numbered row) t
 
-  pub condition-apart : (items tanks : List ℤ) (rows : List ℕ) {was left : List ℕ}
-      → Tells wholesOf (conditionOf items tanks rows) was left place placeLeft number → Apart (conditionOf items tanks rows) number
-  condition-apart items tanks rows t = apart (condition-numbered items tanks rows) t
+  pub condition-apart : (reading : Reading) (items tanks : List ℤ) (rows : List ℕ) {was left : List ℕ}
+      → Tells wholesOf (conditionBy reading items tanks rows) was left place placeLeft number → Apart (conditionBy reading items tanks rows) number
+  condition-apart reading items tanks rows t = apart (condition-numbered reading items tanks rows) t
 
   module _ (t : Tally) {was left : Kept} where
     pub load-apart : (slot : ℕ) (i : Item) → Tells keptOf (loads slot i t) was left place placeLeft number → Apart (loads slot i t) number

@@ -1,12 +1,13 @@
 // The loading condition.
 ghost use mathlib.Core.Path.{_≡_};
-ghost use Rattle.loading.specs.Condition.{conditionOf};
+ghost use Rattle.loading.specs.Condition.{conditionOf, conditionBy};
 ghost use Rattle.loading.specs.Promise.{paper};
 ghost use Rattle.rugulosca.specs.Told.{TellsCondition, lie, tangentOf, wholesOf};
 use crate::ANSWERED;
 use loading::Answer;
 use loading::Condition;
 use loading::Heel;
+use loading::Reading;
 
 // How many numbers of a condition have no sign, and how many have one.
 pub(crate) const WHOLE_COUNT: usize = 8;
@@ -79,7 +80,7 @@ pub(crate) fn tell(
     }
 }
 
-// The condition of items and tanks over the rows of a hull.
+// The condition of items and tanks over the rows of a hull, with the lesser KM between two rows.
 #[no_mangle]
 pub extern "C" fn rugulosca_condition(
     items: &[i64],
@@ -93,5 +94,22 @@ pub extern "C" fn rugulosca_condition(
     ensures { λ r. ⌜ TellsCondition (conditionOf (now (items .entry)) (now (tanks .entry)) (now (rows .entry))) (now (wholes .entry)) (now (wholes .exit)) (now («signed_numbers» .entry)) (now («signed_numbers» .exit)) (now (tangent .entry)) (now (tangent .exit)) (now (place .entry)) (now (place .exit)) r ⌝ }
 {
     let answer = loading::condition_of(items, tanks, rows);
+    tell(answer, wholes, signed_numbers, tangent, place)
+}
+
+// The same with KM on the straight line between two rows.
+#[no_mangle]
+pub extern "C" fn rugulosca_condition_straight_line(
+    items: &[i64],
+    tanks: &[i64],
+    rows: &[u64],
+    wholes: &mut [u64; WHOLE_COUNT],
+    signed_numbers: &mut [i64; SIGNED_COUNT],
+    tangent: &mut f64,
+    place: &mut usize,
+) -> u64
+    ensures { λ r. ⌜ TellsCondition (conditionBy Reading.StraightLine (now (items .entry)) (now (tanks .entry)) (now (rows .entry))) (now (wholes .entry)) (now (wholes .exit)) (now («signed_numbers» .entry)) (now («signed_numbers» .exit)) (now (tangent .entry)) (now (tangent .exit)) (now (place .entry)) (now (place .exit)) r ⌝ }
+{
+    let answer = loading::condition_by(Reading::StraightLine, items, tanks, rows);
     tell(answer, wholes, signed_numbers, tangent, place)
 }
