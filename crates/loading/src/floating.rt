@@ -5,8 +5,8 @@ ghost use Rattle.hydrostatics.specs.Usable.{rowIn};
 ghost use Rattle.loading.specs.Private.Afloat.{RowsUsable, RowBelow, OnLine, Floats, Within};
 ghost use Rattle.loading.specs.Paper.{ruleOf};
 ghost use Rattle.loading.specs.Table.{tableOf, line, between};
-use crate::rows;
 use crate::Reading;
+use crate::rows;
 use hydrostatics::Row;
 ghost use Rattle.ranges.specs.Sizes.{mostRows};
 

@@ -1,0 +1,31 @@
+-- Names of readings.
+--     neither          a word that is neither name is none's
+--     names-unique     a word names one thing
+-- Assumes nothing.
+use mathlib.Core.Path.{_≡_, refl, sym, ap, _∙_}
+use mathlib.Core.List.{List}
+use Prim.Native.Nat.{ℕ}
+use native.Mathlib.Omega.{arith}
+use lib.ListN.{length}
+use Rattle.loading.specs.declared.Reading.{Reading}
+use Rattle.loading.specs.declared.Reading.the-variants.{Lesser, StraightLine}
+use Rattle.sheet.specs.Names.{nameOf, Names}
+use Rattle.sheet.specs.declared.names.Named.{Named}
+use Rattle.sheet.specs.declared.names.Named.the-variants.{By, Unknown}
+
+pub neither : (word : List ℕ) → (word ≡ nameOf Lesser → ⊥) → (word ≡ nameOf StraightLine → ⊥) → Names word Unknown
+neither word l s Lesser = l
+neither word l s StraightLine = s
+
+-- no two readings have one name
+name-is-one : (a b : Reading) → nameOf a ≡ nameOf b → a ≡ b
+name-is-one Lesser Lesser e = refl
+name-is-one Lesser StraightLine e = absurd (omega (arith, ap length e))
+name-is-one StraightLine Lesser e = absurd (omega (arith, ap length e))
+name-is-one StraightLine StraightLine e = refl
+
+pub names-unique : (word : List ℕ) (a b : Named) → Names word a → Names word b → a ≡ b
+names-unique word (By a) (By b) m n = ap By (name-is-one a b (sym m ∙ n))
+names-unique word (By a) Unknown m n = absurd (n a m)
+names-unique word Unknown (By b) m n = absurd (m b n)
+names-unique word Unknown Unknown m n = refl

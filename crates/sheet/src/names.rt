@@ -1,0 +1,39 @@
+// The readings of KM by name.
+ghost use Rattle.sheet.specs.Names.{Names};
+use loading::Reading;
+
+// What a word names.
+pub(crate) enum Named {
+    By(Reading),
+    Unknown,
+}
+
+// The longest name is "straight-line". A word that is longer is none.
+const LONGEST_NAME: usize = 13;
+
+// What this word names.
+fn reading_of(word: &[u8]) -> Named
+    ensures { λ r. ⌜ Names (now (word .entry)) r ⌝ }
+{
+    if check::same(word, b"lesser") {
+        return Named::By(Reading::Lesser);
+    }
+    if check::same(word, b"straight-line") {
+        return Named::By(Reading::StraightLine);
+    }
+    Named::Unknown
+}
+
+// What the command line asks for: by no word the default, by one the reading of that name.
+pub(crate) fn asked() -> Named {
+    let count = os::arg_count();
+    if count < 2 {
+        return Named::By(Reading::DEFAULT);
+    }
+    if 2 < count {
+        return Named::Unknown;
+    }
+    let mut word = [0u8; LONGEST_NAME];
+    let length = os::arg(1, &mut word);
+    reading_of(&word[..length])
+}
