@@ -38,7 +38,7 @@ use Rattle.hydrostatics.specs.declared.Rows.{Rows as MadeOrNot}
 use Rattle.hydrostatics.specs.declared.Rows.the-variants as MadeOrNot
 use Rattle.hydrostatics.proofs.Numbered.{rows-numbered, display-numbered}
 use Rattle.hydrostatics.proofs.Unique.{makes-rows-unique, display-unique}
-use Rattle.loading.specs.Condition.{conditionOf}
+use Rattle.loading.specs.Condition.{conditionBy}
 use Rattle.loading.specs.Items.{itemTotals}
 use Rattle.loading.specs.Promise as Loading
 use Rattle.loading.specs.declared.Answer.{Answer as Conditions}
@@ -48,6 +48,7 @@ use Rattle.loading.specs.declared.Totalled.the-variants as Totalled
 use Rattle.loading.proofs.Itemised.{totals-numbered, paper-totals-injective}
 use Rattle.loading.proofs.Numbered.{condition-numbered}
 use Rattle.loading.proofs.Unique.{paper-injective, makes-condition-unique}
+use Rattle.loading.specs.declared.Reading.{Reading}
 use Rattle.tally.specs.Condition.{conditionAboard}
 use Rattle.tally.specs.History.{Step, load, discharge, shift, taken}
 use Rattle.tally.specs.Steps.{stepped, paper}
@@ -56,15 +57,15 @@ use Rattle.tally.specs.declared.Tally.{Tally}
 use Rattle.tally.proofs.Histories.{refused-unchanged}
 use Rattle.tally.proofs.Numbered as Tally
 use Rattle.tally.proofs.Stepping.{paper-stepped}
-use Rattle.report.specs.Promise.{Reports, reportOf}
+use Rattle.report.specs.Promise.{Reports, reportBy}
 use Rattle.report.specs.Promise as Report
-use Rattle.report.specs.Sheet.{sheetOf}
+use Rattle.report.specs.Sheet.{sheetBy}
 use Rattle.report.specs.declared.Report.{Report as Reported}
 use Rattle.report.specs.declared.Report.the-variants as Reported
 use Rattle.report.proofs.Numbered.{report-numbered}
 use Rattle.report.proofs.Unique.{reports-unique}
 use Rattle.demands.specs.Answering.{AnswersOrRefuses}
-use Rattle.demands.specs.Demands.{Conditioned}
+use Rattle.demands.specs.Conditioned.{Conditioned}
 use Rattle.demands.proofs.Backs.{Told, told, two-same, four-same}
 
 -- an answer's outcome has the numbers of the one it tells
@@ -72,25 +73,25 @@ numbered-as : {Answer Values : Type 0} {paper : Answer → Outcome Values} {o : 
 numbered-as t h = subst Numbered (sym (t .is)) h
 
 -- ---- the sheet
-module _ (text room : List ℕ) where
+module _ (reading : Reading) (text room : List ℕ) where
   abbrev reported : Outcome ℕ
-  reported = reportOf text (length room)
+  reported = reportBy reading text (length room)
 
   -- what is refused is the room, which is shorter than the text
-  sheet-short : {number place : ℕ} → reported ≡ refused number place → laid (sheetOf text) room ≡ room
-  unfolding reportOf
-  sheet-short e = laid-short (sheetOf text) room (ltb-true _ _ (was-refused roomTooShort (length (sheetOf text)) (length (sheetOf text)) e))
+  sheet-short : {number place : ℕ} → reported ≡ refused number place → laid (sheetBy reading text) room ≡ room
+  unfolding reportBy
+  sheet-short e = laid-short (sheetBy reading text) room (ltb-true _ _ (was-refused roomTooShort (length (sheetBy reading text)) (length (sheetBy reading text)) e))
 
-  pub sheet-answers : AnswersOrRefuses (λ (back : Reported × List ℕ). Reports text room (back .1) (back .0)) (λ back. Report.paper (back .0)) (λ back. back .1 ≡ room)
+  pub sheet-answers : AnswersOrRefuses (λ (back : Reported × List ℕ). Reports reading text room (back .1) (back .0)) (λ back. Report.paper (back .0)) (λ back. back .1 ≡ room)
   sheet-answers =
       let t = told Report.paper Reported.Lines Reported.Refused (λ v. refl) (λ r. refl) reported in
-      let back : Reported × List ℕ = (t .answer, laid (sheetOf text) room) in
-      let kept : Reports text room (back .1) (back .0) = record { answer-is = t .is; left = refl } in
+      let back : Reported × List ℕ = (t .answer, laid (sheetBy reading text) room) in
+      let kept : Reports reading text room (back .1) (back .0) = record { answer-is = t .is; left = refl } in
       record {
         back = back;
         kept = kept;
         only = λ other k. two-same other back (reports-unique k kept);
-        numbered = numbered-as t (report-numbered text (length room));
+        numbered = numbered-as t (report-numbered reading text (length room));
         untouched = λ e. sheet-short (sym (t .is) ∙ e);
       }
 
@@ -162,15 +163,15 @@ display-answers row =
       untouched = λ e. tt;
     }
 
-pub condition-answers : (items tanks : List ℤ) (rows : List ℕ) → AnswersOrRefuses (Conditioned items tanks rows) Loading.paper (λ answer. Unit)
-condition-answers items tanks rows =
-    let t = told Loading.paper Answer.Laden Answer.Refused (λ v. refl) (λ r. refl) (conditionOf items tanks rows) in
-    let kept : Conditioned items tanks rows (t .answer) = record { least-gm-is = refl; heel-limit-is = refl; answer-is = t .is } in
+pub condition-answers : (reading : Reading) (items tanks : List ℤ) (rows : List ℕ) → AnswersOrRefuses (Conditioned reading items tanks rows) Loading.paper (λ answer. Unit)
+condition-answers reading items tanks rows =
+    let t = told Loading.paper Answer.Laden Answer.Refused (λ v. refl) (λ r. refl) (conditionBy reading items tanks rows) in
+    let kept : Conditioned reading items tanks rows (t .answer) = record { least-gm-is = refl; heel-limit-is = refl; answer-is = t .is } in
     record {
       back = t .answer;
       kept = kept;
       only = λ other k. makes-condition-unique k kept;
-      numbered = numbered-as t (condition-numbered items tanks rows);
+      numbered = numbered-as t (condition-numbered reading items tanks rows);
       untouched = λ e. tt;
     }
 

@@ -1,7 +1,7 @@
 -- The three demands are met.
 --     demands-met        all of `Demands`, from the theorems of the crates below
 -- Assumes nothing.
-use mathlib.Core.Path.{_≡_, sym, ap, _∙_}
+use mathlib.Core.Path.{_≡_, refl, sym, ap, subst₂, _∙_}
 use mathlib.Core.List.{List}
 use Prim.Native.Nat.{ℕ}
 use lib.IntN.{ℤ, pos}
@@ -11,11 +11,15 @@ use Rattle.hydrostatics.specs.Hull.{halfBreadth}
 use Rattle.hydrostatics.specs.Row.{waterlineOf}
 use Rattle.hydrostatics.proofs.Exchange.{Q-is}
 use Rattle.hydrostatics.proofs.MadeRows.{made-rows, made-area}
+use Rattle.loading.specs.Beside.{Alike, NotAbove}
 use Rattle.loading.specs.Demand.{LoweredTables, NoWorse}
 use Rattle.loading.specs.declared.Answer.{Answer}
 use Rattle.loading.specs.declared.Answer.the-variants.{Laden}
 use Rattle.loading.specs.declared.Condition.{Condition}
+use Rattle.loading.specs.declared.Reading.{Reading}
 use Rattle.loading.proofs.Answers.{answer-says}
+use Rattle.loading.proofs.Beside.{readings-beside}
+use Rattle.loading.proofs.ByRow.{own-weight-stands, read-between}
 use Rattle.loading.proofs.Demand3 as Third
 use Rattle.loading.proofs.Demand3.{ConditionOver}
 use Rattle.loading.proofs.Unique.{paper-injective}
@@ -23,8 +27,10 @@ use Rattle.tally.specs.History.{taken}
 use Rattle.tally.proofs.Histories.{totals-after, answers-alike, always-sound, usable-at-once, condition-after, stepped-on}
 use Rattle.rugulosca.specs.Told.{placeAfter, valueAfter}
 use Rattle.rugulosca.proofs.Apart.{apart}
-use Rattle.demands.specs.Demands.{Conditioned, IsCondition, Demand1, Demand2, Demand3, Demands}
+use Rattle.demands.specs.Conditioned.{Conditioned, IsCondition}
+use Rattle.demands.specs.Demands.{Demand1, Demand2, Demand3, Demands}
 use Rattle.demands.specs.RunningTally.{RunningTally}
+use Rattle.demands.specs.TwoReadings.{TwoReadings}
 use Rattle.demands.proofs.Answering.{sheet-answers, reader-answers, writer-answers, rows-answer, display-answers, condition-answers, totals-answer, step-answers, aboard-answers}
 
 demand-1 : Demand1
@@ -45,13 +51,13 @@ demand-1 = record {
 }
 
 -- a condition that the call answered, over its rows
-over : {items tanks : List ℤ} {rows : List ℕ} {c : Condition} → IsCondition items tanks rows c → ConditionOver rows c
+over : {reading : Reading} {items tanks : List ℤ} {rows : List ℕ} {c : Condition} → IsCondition reading items tanks rows c → ConditionOver reading rows c
 over {items} {tanks} k = record { items = items; tanks = tanks; given = sym (k .answer-is) }
 
 demand-2 : Demand2
 demand-2 = record {
   rows-follow-the-rules = made-rows;
-  conditions-follow-the-formulas = λ {items} {tanks} {rows} k. (answer-says items tanks rows (sym (k .answer-is)) .1, Third.draft-is-greatest (over k));
+  conditions-follow-the-formulas = λ {reading} {items} {tanks} {rows} k. (answer-says reading items tanks rows (sym (k .answer-is)) .1, Third.draft-is-greatest (over k));
   curves-get-their-areas = answer-exact;
   waterlines-get-their-areas = λ {halfBreadths} {p} made r h a b c e is.
       let k = waterlineOf r in
@@ -60,10 +66,10 @@ demand-2 = record {
   what-is-written-is-read-back = write-then-read;
 }
 
-lowering : {items′ tanks′ items tanks : List ℤ} {rows : List ℕ} {c : Condition} {answer : Answer}
-    → IsCondition items tanks rows c → LoweredTables items′ tanks′ items tanks → Conditioned items′ tanks′ rows answer → (d : Condition) × (answer ≡ Laden d) × NoWorse d c
-lowering {rows = rows} {answer = answer} k low again =
-    let lowered = Third.lowering-never-costs-the-answer rows (sym (k .answer-is)) low in
+lowering : {reading : Reading} {items′ tanks′ items tanks : List ℤ} {rows : List ℕ} {c : Condition} {answer : Answer}
+    → IsCondition reading items tanks rows c → LoweredTables items′ tanks′ items tanks → Conditioned reading items′ tanks′ rows answer → (d : Condition) × (answer ≡ Laden d) × NoWorse d c
+lowering {reading} {rows = rows} {answer = answer} k low again =
+    let lowered = Third.lowering-never-costs-the-answer reading rows (sym (k .answer-is)) low in
     (lowered .0, paper-injective answer (Laden (lowered .0)) (again .answer-is ∙ lowered .1), lowered .2)
 
 demand-3 : Demand3
@@ -85,5 +91,15 @@ running-tally = record {
   condition-is-the-lists = condition-after;
 }
 
+two-readings : TwoReadings
+two-readings = record {
+  default-is-the-lesser = λ k r b. read-between (over k) r (b .there) (b .above) (b .below);
+  own-weight-stands = λ k. own-weight-stands (over k);
+  straight-line-by-name = λ k r b. read-between (over k) r (b .there) (b .above) (b .below);
+  tally-takes-the-default = λ items tanks rows. refl;
+  sheet-takes-the-default = λ text. refl;
+  lesser-is-never-above = λ {items} {tanks} {rows} k l. subst₂ (Alike NotAbove) (sym (k .answer-is)) (sym (l .answer-is)) (readings-beside items tanks rows);
+}
+
 pub demands-met : Demands
-demands-met = record { demand-1 = demand-1; demand-2 = demand-2; demand-3 = demand-3; running-tally = running-tally }
+demands-met = record { demand-1 = demand-1; demand-2 = demand-2; demand-3 = demand-3; running-tally = running-tally; two-readings = two-readings }

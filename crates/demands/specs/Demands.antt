@@ -37,14 +37,14 @@ use Rattle.loading.specs.Fraction.{LessThanThreeBelow}
 use Rattle.loading.specs.Paper.{paperRules}
 use Rattle.loading.specs.Items.{itemTotals}
 use Rattle.loading.specs.Promise as Loading
-use Rattle.loading.specs.Promise.{MakesCondition}
 use Rattle.loading.specs.Records.{loadOf}
-use Rattle.loading.specs.Stability.{leastGM, heelLimit, unroundedGM}
+use Rattle.loading.specs.Stability.{unroundedGM}
 use Rattle.loading.specs.Straight.{Greatest}
 use Rattle.loading.specs.Table.{hull}
 use Rattle.loading.specs.declared.Answer.{Answer}
 use Rattle.loading.specs.declared.Answer.the-variants.{Laden}
 use Rattle.loading.specs.declared.Condition.{Condition}
+use Rattle.loading.specs.declared.Reading.{Reading}
 use Rattle.loading.specs.declared.Totalled.{Totalled}
 use Rattle.tally.specs.Condition.{conditionAboard}
 use Rattle.tally.specs.History.{Step, taken}
@@ -57,20 +57,15 @@ use Rattle.report.specs.Promise.{Reports}
 use Rattle.report.specs.declared.Report.{Report as Reported}
 use Rattle.rugulosca.specs.Told.{Tells, Apart}
 use Rattle.demands.specs.Answering.{AnswersOrRefuses}
+use Rattle.demands.specs.Conditioned.{Conditioned, IsCondition}
 use Rattle.demands.specs.RunningTally.{RunningTally}
-
--- an answer of the condition's call for these tables, and one that is a condition
-abbrev pub Conditioned : List ℤ → List ℤ → List ℕ → Answer → Type 0
-Conditioned items tanks rows answer = MakesCondition leastGM heelLimit items tanks rows answer
-
-abbrev pub IsCondition : List ℤ → List ℤ → List ℕ → Condition → Type 0
-IsCondition items tanks rows c = Conditioned items tanks rows (Laden c)
+use Rattle.demands.specs.TwoReadings.{TwoReadings}
 
 -- "1. Every file and every lent table gets either its answer or one numbered refusal, and the work always ends. The public calls test everything themselves.
 -- A refusal gives its number and its place, and the tables lent for writing hold what they held before."
 pub record Demand1 : Type 1 where
-  pub of-the-sheet : (text room : List ℕ)
-      → AnswersOrRefuses (λ (back : Reported × List ℕ). Reports text room (back .1) (back .0)) (λ back. Report.paper (back .0)) (λ back. back .1 ≡ room)
+  pub of-the-sheet : (reading : Reading) (text room : List ℕ)
+      → AnswersOrRefuses (λ (back : Reported × List ℕ). Reports reading text room (back .1) (back .0)) (λ back. Report.paper (back .0)) (λ back. back .1 ≡ room)
   pub of-the-reader : (text halfBreadths : List ℕ) (items tanks : List ℤ)
       → AnswersOrRefuses (λ (back : Read × List ℕ × List ℤ × List ℤ). Reads text halfBreadths (back .1) items (back .2) tanks (back .3) (back .0)) (λ back. Reader.paper (back .0)) (λ back. (back .1 ≡ halfBreadths) × (back .2 ≡ items) × (back .3 ≡ tanks))
   pub of-the-writer : (p : Particulars) (halfBreadths : List ℕ) (items tanks : List ℤ) (room : List ℕ)
@@ -83,8 +78,8 @@ pub record Demand1 : Type 1 where
   -- these are lent nothing for writing
   pub of-the-display : (row : Row)
       → AnswersOrRefuses (λ (answer : Displayed). Display.paper answer ≡ displayOf row) Display.paper (λ answer. Unit)
-  pub of-the-condition : (items tanks : List ℤ) (rows : List ℕ)
-      → AnswersOrRefuses (Conditioned items tanks rows) Loading.paper (λ answer. Unit)
+  pub of-the-condition : (reading : Reading) (items tanks : List ℤ) (rows : List ℕ)
+      → AnswersOrRefuses (Conditioned reading items tanks rows) Loading.paper (λ answer. Unit)
   pub of-the-totals : (items : List ℤ)
       → AnswersOrRefuses (λ (answer : Totalled). Loading.paperTotals answer ≡ itemTotals items) Loading.paperTotals (λ answer. Unit)
   pub of-the-condition-aboard : (t : Tally) (tanks : List ℤ) (rows : List ℕ)
@@ -98,8 +93,8 @@ pub record Demand2 : Type 0 where
   pub rows-follow-the-rules : {halfBreadths : List ℕ} {p : Particulars} {rows after : List ℕ} {count : ℕ} → MakesRows halfBreadths p rows after (Made count)
       → (count ≡ rowsOver (p .m)) × ((r : ℕ) → r < count → rowIn after r ≡ rowOf halfBreadths p r)
   -- "A condition's draft, KM, GM and heel outcome follow its formulas."
-  pub conditions-follow-the-formulas : {items tanks : List ℤ} {rows : List ℕ} {c : Condition} → IsCondition items tanks rows c
-      → (c ≡ conditionAt (hull rows) (loadOf items tanks)) × Greatest (hull rows) (c .weight) (c .draft)
+  pub conditions-follow-the-formulas : {reading : Reading} {items tanks : List ℤ} {rows : List ℕ} {c : Condition} → IsCondition reading items tanks rows c
+      → (c ≡ conditionAt reading (hull rows) (loadOf items tanks)) × Greatest (hull rows) (c .weight) (c .draft)
   -- "A half-breadth curve that is a polynomial of third degree or less, with whole-number coefficients, gets its exact area, before rounding, at each count."
   -- `area` is 24 times it, in intervals; a row's waterplane, both sides of it, is rounded down once
   pub curves-get-their-areas : (ordinates : List ℕ) (a b c e : ℤ) {sum : ℕ} → Sum sum ≡ curveSumOf ordinates → ((i : ℕ) → i < length ordinates → pos (getD ordinates i 0) ≡ cubic a b c e (pos i))
@@ -112,23 +107,25 @@ pub record Demand2 : Type 0 where
       → Writes p h i t room roomLeft (Wrote count) → RoomForAnyFile h₀ i₀ t₀ → Reads (take count roomLeft) h₀ h′ i₀ i′ t₀ t′ answer
       → ReadBack (summaryWith p i t) h i t h₀ h′ i₀ i′ t₀ t′ answer
 
+-- by one reading of KM, whichever it is: "it compares conditions, and the unrounded GM, under the same reading"
 pub record Demand3 : Type 0 where
   -- "3. With one row table, the heavier of two answered conditions never has the smaller draft, and equal weights have the same draft and KM."
-  pub heavier-never-floats-higher : {items tanks items′ tanks′ : List ℤ} {rows : List ℕ} {c d : Condition} → IsCondition items tanks rows c → IsCondition items′ tanks′ rows d
+  pub heavier-never-floats-higher : {reading : Reading} {items tanks items′ tanks′ : List ℤ} {rows : List ℕ} {c d : Condition} → IsCondition reading items tanks rows c → IsCondition reading items′ tanks′ rows d
       → c .weight ≤ d .weight → c .draft ≤ d .draft
-  pub equal-weights-float-alike : {items tanks items′ tanks′ : List ℤ} {rows : List ℕ} {c d : Condition} → IsCondition items tanks rows c → IsCondition items′ tanks′ rows d
+  pub equal-weights-float-alike : {reading : Reading} {items tanks items′ tanks′ : List ℤ} {rows : List ℕ} {c d : Condition} → IsCondition reading items tanks rows c → IsCondition reading items′ tanks′ rows d
       → c .weight ≡ d .weight → (c .draft ≡ d .draft) × (c .km ≡ d .km)
   -- "Take an answered condition and only lower items or tanks, or reduce a tank's length, breadth or liquid density, each staying in its range.
   -- GM does not fall, and a condition that passed still passes."
-  pub lowering-never-costs-the-answer : {items′ tanks′ items tanks : List ℤ} {rows : List ℕ} {c : Condition} {answer : Answer} → IsCondition items tanks rows c
-      → LoweredTables items′ tanks′ items tanks → Conditioned items′ tanks′ rows answer
+  pub lowering-never-costs-the-answer : {reading : Reading} {items′ tanks′ items tanks : List ℤ} {rows : List ℕ} {c : Condition} {answer : Answer} → IsCondition reading items tanks rows c
+      → LoweredTables items′ tanks′ items tanks → Conditioned reading items′ tanks′ rows answer
       → (d : Condition) × (answer ≡ Laden d) × NoWorse d c
   -- "The GM given is never above the unrounded GM over the same rows, and less than 3 mm below it."
-  pub gm-is-close : {items tanks : List ℤ} {rows : List ℕ} {c : Condition} → IsCondition items tanks rows c
-      → LessThanThreeBelow (c .gm) (unroundedGM paperRules (hull rows) (loadOf items tanks))
+  pub gm-is-close : {reading : Reading} {items tanks : List ℤ} {rows : List ℕ} {c : Condition} → IsCondition reading items tanks rows c
+      → LessThanThreeBelow (c .gm) (unroundedGM (paperRules reading) (hull rows) (loadOf items tanks))
 
 pub record Demands : Type 1 where
   pub demand-1 : Demand1
   pub demand-2 : Demand2
   pub demand-3 : Demand3
   pub running-tally : RunningTally
+  pub two-readings : TwoReadings
