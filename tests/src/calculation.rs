@@ -2,15 +2,15 @@
 
 #[cfg(linked)]
 use crate::calls;
-use crate::calls::{Condition, Refusal, Summary, Tally};
+use crate::calls::{Condition, Reading, Refusal, Summary, Tally};
 use crate::peer;
 
-type Report = fn(&[u8], &mut [u8]) -> Result<usize, Refusal>;
+type Report = fn(Reading, &[u8], &mut [u8]) -> Result<usize, Refusal>;
 type Read = fn(&[u8], &mut [u64], &mut [i64], &mut [i64]) -> Result<Summary, Refusal>;
 type Write = fn(&[u64; 5], &[u64], &[i64], &[i64], &mut [u8]) -> Result<usize, Refusal>;
 type Rows = fn(&[u64], &[u64; 5], &mut [u64]) -> Result<usize, Refusal>;
 type Display = fn(&[u64; 7]) -> Result<[f64; 7], Refusal>;
-type Answer = fn(&[i64], &[i64], &[u64]) -> Result<Condition, Refusal>;
+type Answer = fn(Reading, &[i64], &[i64], &[u64]) -> Result<Condition, Refusal>;
 type Load = fn(&mut Tally, usize, &[i64; 4]) -> Result<(), Refusal>;
 type Discharge = fn(&mut Tally, usize) -> Result<(), Refusal>;
 type Shift = fn(&mut Tally, usize, &[i64; 3]) -> Result<(), Refusal>;

@@ -1,4 +1,4 @@
-//! Rugulosca for Rust: the ten calls of `include/rugulosca.h` over slices, with a refusal as the error.
+//! Rugulosca for Rust: the twelve calls of `include/rugulosca.h` over slices, with a refusal as the error.
 //!
 //! This file stands alone: a program that links `librugulosca.a` can take it as it is. Nothing is allocated or kept,
 //! and no call has a condition on its numbers, lengths or bytes.
@@ -16,6 +16,20 @@ pub struct Summary {
     pub particulars: [u64; 5],
     pub items: u64,
     pub tanks: u64,
+}
+
+/// How KM is read where the weight lies strictly between two rows; at a row's own weight that row's KM stands.
+#[derive(Clone, Copy, Debug, Default, PartialEq, Eq)]
+pub enum Reading {
+    /// The lesser KM of the two rows.
+    #[default]
+    Lesser,
+    /// The KM on the straight line between them.
+    StraightLine,
+}
+
+impl Reading {
+    pub const BOTH: [Reading; 2] = [Reading::Lesser, Reading::StraightLine];
 }
 
 /// How the vessel lies; heeled carries the tangent of the angle.
@@ -58,8 +72,49 @@ impl Tally {
 
 /// The header's declarations, for those who want the numbers as C sees them.
 pub mod raw {
+    use super::Reading;
+
+    pub type Report = unsafe extern "C" fn(*const u8, usize, *mut u8, usize, *mut usize, *mut usize) -> u64;
+    pub type Condition = unsafe extern "C" fn(
+        *const i64,
+        usize,
+        *const i64,
+        usize,
+        *const u64,
+        usize,
+        *mut [u64; 8],
+        *mut [i64; 2],
+        *mut f64,
+        *mut usize,
+    ) -> u64;
+
+    /// The call that makes a sheet by this reading.
+    pub fn report(reading: Reading) -> Report {
+        match reading {
+            Reading::Lesser => rugulosca_report,
+            Reading::StraightLine => rugulosca_report_straight_line,
+        }
+    }
+
+    /// The call that makes a condition by this reading.
+    pub fn condition(reading: Reading) -> Condition {
+        match reading {
+            Reading::Lesser => rugulosca_condition,
+            Reading::StraightLine => rugulosca_condition_straight_line,
+        }
+    }
+
     extern "C" {
         pub fn rugulosca_report(
+            text: *const u8,
+            text_length: usize,
+            room: *mut u8,
+            room_length: usize,
+            count: *mut usize,
+            place: *mut usize,
+        ) -> u64;
+
+        pub fn rugulosca_report_straight_line(
             text: *const u8,
             text_length: usize,
             room: *mut u8,
@@ -120,6 +175,19 @@ pub mod raw {
             place: *mut usize,
         ) -> u64;
 
+        pub fn rugulosca_condition_straight_line(
+            items: *const i64,
+            items_length: usize,
+            tanks: *const i64,
+            tanks_length: usize,
+            rows: *const u64,
+            rows_length: usize,
+            wholes: *mut [u64; 8],
+            signed_numbers: *mut [i64; 2],
+            tangent: *mut f64,
+            place: *mut usize,
+        ) -> u64;
+
         pub fn rugulosca_load(
             slots: *mut [i64; 160],
             totals: *mut [u64; 3],
@@ -163,12 +231,11 @@ pub mod raw {
 }
 
 /// From a file's text to the sheet's lines; answers the bytes of the sheet.
-pub fn report(text: &[u8], room: &mut [u8]) -> Result<usize, Refusal> {
+pub fn report(reading: Reading, text: &[u8], room: &mut [u8]) -> Result<usize, Refusal> {
+    let call = raw::report(reading);
     let (mut count, mut place) = (0, 0);
     // SAFETY: each pointer comes from a live slice with its length, and the borrows keep them apart.
-    let number = unsafe {
-        raw::rugulosca_report(text.as_ptr(), text.len(), room.as_mut_ptr(), room.len(), &mut count, &mut place)
-    };
+    let number = unsafe { call(text.as_ptr(), text.len(), room.as_mut_ptr(), room.len(), &mut count, &mut place) };
     answer(number, place, count)
 }
 
@@ -249,11 +316,12 @@ pub fn display(row: &[u64; 7]) -> Result<[f64; 7], Refusal> {
 }
 
 /// The loading condition of items and tanks over a table of rows.
-pub fn condition(items: &[i64], tanks: &[i64], rows: &[u64]) -> Result<Condition, Refusal> {
+pub fn condition(reading: Reading, items: &[i64], tanks: &[i64], rows: &[u64]) -> Result<Condition, Refusal> {
+    let call = raw::condition(reading);
     let (mut wholes, mut signed_numbers, mut tangent, mut place) = ([0; 8], [0; 2], 0.0, 0);
     // SAFETY: as in `report`.
     let number = unsafe {
-        raw::rugulosca_condition(
+        call(
             items.as_ptr(),
             items.len(),
             tanks.as_ptr(),
@@ -296,7 +364,7 @@ pub fn shift(tally: &mut Tally, slot: usize, to: &[i64; 3]) -> Result<(), Refusa
     answer(number, place, ())
 }
 
-/// The loading condition of a tally's items and tanks over a table of rows.
+/// The loading condition of a tally's items and tanks over a table of rows, by the lesser KM.
 pub fn condition_aboard(tally: &Tally, tanks: &[i64], rows: &[u64]) -> Result<Condition, Refusal> {
     let (mut wholes, mut signed_numbers, mut tangent, mut place) = ([0; 8], [0; 2], 0.0, 0);
     // SAFETY: as in `report`.

@@ -12,7 +12,7 @@ mod texts;
 #[cfg(test)]
 mod trial_texts;
 
-use crate::calls::Tally;
+use crate::calls::{Reading, Tally};
 use crate::peer;
 use crate::peer::ranges::{HALF_BREADTH, ITEM, PARTICULARS, ROW, TANK};
 use crate::peer::tally::SLOTS;
@@ -21,6 +21,7 @@ use edges::{damage_number, damage_records, damage_size, edge};
 use hulls::Hull;
 pub use layouts::{MOST_DIGITS, SEPARATORS};
 use random::{mixed, Random};
+pub use row_tables::{DISPLACEMENT, KM};
 
 /// Rooms that are never too short.
 const SHEET_ROOM: usize = 3_173;
@@ -38,12 +39,12 @@ pub enum Case {
 /// One call with all that is lent to it; rooms by their lengths.
 #[derive(Clone, Debug, PartialEq)]
 pub enum Call {
-    Report { text: Vec<u8>, room: usize },
+    Report { reading: Reading, text: Vec<u8>, room: usize },
     Read { text: Vec<u8>, rooms: [usize; 3] },
     Write { numbers: FileNumbers, room: usize },
     Rows { particulars: [u64; 5], half_breadths: Vec<u64>, room: usize },
     Display { row: [u64; 7] },
-    Condition { items: Vec<i64>, tanks: Vec<i64>, rows: Vec<u64> },
+    Condition { reading: Reading, items: Vec<i64>, tanks: Vec<i64>, rows: Vec<u64> },
     Step { tally: Box<Tally>, step: Step },
     Aboard { tally: Box<Tally>, tanks: Vec<i64>, rows: Vec<u64> },
 }
@@ -74,6 +75,18 @@ impl Case {
     }
 }
 
+impl Call {
+    /// The same call by the straight line, of those that ask for a reading.
+    pub fn by_straight_line(&self) -> Option<Call> {
+        let reading = Reading::StraightLine;
+        match self.clone() {
+            Call::Report { text, room, .. } => Some(Call::Report { reading, text, room }),
+            Call::Condition { items, tanks, rows, .. } => Some(Call::Condition { reading, items, tanks, rows }),
+            _ => None,
+        }
+    }
+}
+
 /// What stands at place `i` of a lent table before a call.
 pub fn pattern(i: usize) -> u64 {
     mixed(!(i as u64)) >> 1
@@ -98,12 +111,15 @@ fn file_numbers(random: &mut Random) -> FileNumbers {
 fn report(random: &mut Random) -> Call {
     let text = file_text(random);
     let room = match random.below(16) {
-        0 | 1 => near(random, needed(peer::report(&text, &mut []))),
+        0 | 1 => {
+            let reading = random.pick(&Reading::BOTH);
+            near(random, needed(peer::report(reading, &text, &mut [])))
+        }
         2 if random.one_in(4) => 0,
         3 => SHEET_ROOM + random.index(100),
         _ => SHEET_ROOM,
     };
-    Call::Report { text, room }
+    Call::Report { reading: Reading::default(), text, room }
 }
 
 fn read(random: &mut Random) -> Call {
@@ -212,7 +228,7 @@ fn condition(random: &mut Random) -> Call {
             _ => row_tables::damage(random, &mut rows),
         }
     }
-    Call::Condition { items, tanks, rows }
+    Call::Condition { reading: Reading::default(), items, tanks, rows }
 }
 
 /// A step of a tally that is handed in, chosen before the tally is spoilt.

@@ -1,7 +1,7 @@
 //! Times the library beside the own calculation, call by call, on three files.
 
 use crate::calculation::{Calculation, LIBRARY, PEER};
-use crate::calls::Tally;
+use crate::calls::{Reading, Tally};
 use crate::peer::tally::SLOT_NUMBERS;
 use crate::samples::{largest_file, SAMPLE_FILE, SMALLEST_FILE};
 use std::hint::black_box;
@@ -120,7 +120,7 @@ impl Lent {
         let tanks = tables.2[..8 * summary.tanks as usize].to_vec();
         let count = (PEER.rows)(&half_breadths, &summary.particulars, &mut tables.3).ok()?;
         let rows = tables.3[..7 * count].to_vec();
-        (PEER.condition)(&items, &tanks, &rows).ok()?;
+        (PEER.condition)(Reading::default(), &items, &tanks, &rows).ok()?;
         let lift = Lift::of(&items)?;
         let (text, room, particulars) = (text.into_bytes(), vec![0; 16_384], summary.particulars);
         Some(Lent { text, particulars, half_breadths, items, tanks, rows, lift, room, tables })
@@ -130,6 +130,7 @@ impl Lent {
         let Lent { text, particulars, half_breadths, items, tanks, rows, lift, room, tables } = self;
         let Lift { slot, item, before, after } = lift;
         let (read_half_breadths, read_items, read_tanks, made_rows) = tables;
+        let reading = Reading::default();
         match call {
             "read" => repeatedly(times, || {
                 let answer = (calculation.read)(black_box(text), read_half_breadths, read_items, read_tanks);
@@ -142,10 +143,10 @@ impl Lent {
                 answer.is_ok()
             }),
             "condition" => repeatedly(times, || {
-                black_box((calculation.condition)(black_box(items), black_box(tanks), black_box(rows))).is_ok()
+                black_box((calculation.condition)(reading, black_box(items), black_box(tanks), black_box(rows))).is_ok()
             }),
             "report" => repeatedly(times, || {
-                let answer = (calculation.report)(black_box(text), room);
+                let answer = (calculation.report)(reading, black_box(text), room);
                 black_box(&room);
                 answer.is_ok()
             }),

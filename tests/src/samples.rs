@@ -1,6 +1,9 @@
 //! Files with a name: the paper's sample, the smallest that gives a condition, and the largest.
 
-/// The file of the paper's trial figures, and the sheet it gives.
+#[cfg(test)]
+use crate::calls::Reading;
+
+/// The file of the paper's trial figures.
 pub const SAMPLE_FILE: &str = "\
 5
 4 4 2500 500 1000
@@ -16,13 +19,22 @@ pub const SAMPLE_FILE: &str = "\
 5000 8000 5000 400 300 2000 2000 1000
 ";
 
+/// The sheet of the paper's file: its rows, and its condition by a reading.
 #[cfg(test)]
-pub const SAMPLE_SHEET: &str = "\
+pub fn sample_sheet(reading: Reading) -> String {
+    let [km, gm] = match reading {
+        Reading::Lesser => [1638, 681],
+        Reading::StraightLine => [1735, 778],
+    };
+    format!(
+        "\
 R 1000 40000 5000 500 1333 1833 40000000
 R 1500 60000 5000 750 888 1638 40000000
 R 2000 80000 5000 1000 666 1666 40000000
-C 50000 1250 1735 5000 46500000 1333334 778 2000000 heeled 1
-";
+C 50000 1250 {km} 5000 46500000 1333334 {gm} 2000000 heeled 1
+"
+    )
+}
 
 /// Two intervals of length, three of draft, one item, and no number longer than it must be.
 pub const SMALLEST_FILE: &str = "5 2 3 99 300 900 12 9 9 9 9 9 9 9 9 9 9 9 9 1 1 0 0 0 0";

@@ -1,9 +1,10 @@
-//! Answers worked out elsewhere, byte for byte: each `.txt` file's sheet must be its `.out` file, and so must the totals
-//! after each step of a `tally-` `.in` file.
+//! Answers worked out elsewhere, byte for byte: each `.txt` file's sheet must be its `.out` file, that of a
+//! `straight-line-` `.txt` file by the straight line, and so must the totals after each step of a `tally-` `.in` file.
 
 mod steps;
 
 use crate::calculation::{Calculation, CALCULATIONS};
+use crate::calls::Reading;
 use std::fs;
 use std::io;
 use std::path::{Path, PathBuf};
@@ -13,22 +14,29 @@ const LONGEST_SHEET: usize = 3_173;
 /// Runs every calculation over a folder of vectors; answers whether all agree.
 pub fn run(folder: &Path) -> io::Result<bool> {
     let sheets = inputs(folder, "", ".txt")?;
+    let straight_line_sheets = inputs(folder, "straight-line-", ".txt")?;
     let tallies = inputs(folder, "tally-", ".in")?;
     let mut agree = true;
     for calculation in CALCULATIONS {
-        agree &= all_agree(calculation.name, "sheets", &sheets, |input| sheet(calculation, input))?;
-        agree &= all_agree(calculation.name, "tallies", &tallies, |input| steps::by_calculation(calculation, input))?;
+        let name = calculation.name;
+        let by = |reading| move |input: &[u8]| sheet(calculation, reading, input);
+        agree &= all_agree(name, "sheets", &sheets, by(Reading::Lesser))?;
+        agree &= all_agree(name, "straight-line sheets", &straight_line_sheets, by(Reading::StraightLine))?;
+        agree &= all_agree(name, "tallies", &tallies, |input| steps::by_calculation(calculation, input))?;
     }
     agree &= all_agree("peer's list", "tallies", &tallies, steps::by_list)?;
     Ok(agree)
 }
 
-/// The folder's files whose names start and end so, in order.
+/// The folder's files whose names start and end so with a number between, in order.
 fn inputs(folder: &Path, start: &str, end: &str) -> io::Result<Vec<PathBuf>> {
+    let is_number = |number: &str| number.bytes().all(|byte| byte.is_ascii_digit());
     let mut inputs = Vec::new();
     for entry in fs::read_dir(folder)? {
         let entry = entry?;
-        if entry.file_name().to_str().is_some_and(|name| name.starts_with(start) && name.ends_with(end)) {
+        let name = entry.file_name();
+        let number = name.to_str().and_then(|name| name.strip_prefix(start)?.strip_suffix(end));
+        if number.is_some_and(is_number) {
             inputs.push(entry.path());
         }
     }
@@ -50,8 +58,8 @@ fn all_agree(name: &str, kind: &str, inputs: &[PathBuf], make: impl Fn(&[u8]) ->
     Ok(wrong == 0 && !inputs.is_empty())
 }
 
-fn sheet(calculation: &Calculation, text: &[u8]) -> Option<Vec<u8>> {
+fn sheet(calculation: &Calculation, reading: Reading, text: &[u8]) -> Option<Vec<u8>> {
     let mut room = [0; LONGEST_SHEET];
-    let length = (calculation.report)(text, &mut room).ok()?;
+    let length = (calculation.report)(reading, text, &mut room).ok()?;
     Some(room[..length].to_vec())
 }

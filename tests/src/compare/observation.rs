@@ -1,7 +1,7 @@
 //! All that can be seen of a call: its number, place and values, and every lent table and room afterwards.
 
 use crate::calculation::Calculation;
-use crate::calls::{raw, Condition, Heel, Refusal, Tally};
+use crate::calls::{raw, Condition, Heel, Reading, Refusal, Tally};
 use crate::generate::{pattern, Call, FileNumbers};
 use crate::peer::History;
 use crate::step::Step;
@@ -9,8 +9,8 @@ use crate::step::Step;
 /// The numbers a call answers with, floats by their bits: at most the eleven of a condition.
 type Values = [u64; 11];
 /// Where a condition's signed numbers and its tangent stand among its values.
-const GM: usize = 8;
-const TRANSVERSE_MOMENT: usize = 9;
+pub const GM: usize = 8;
+pub const TRANSVERSE_MOMENT: usize = 9;
 const TANGENT: usize = 10;
 
 #[derive(Clone, Debug, PartialEq)]
@@ -56,24 +56,24 @@ impl Observation {
     /// The call as the header declares it.
     pub fn by_library(mut self, call: &Call) -> Observation {
         self.number = match call {
-            Call::Report { text, .. } => self.raw_report(text),
+            Call::Report { reading, text, .. } => self.raw_report(*reading, text),
             Call::Read { text, .. } => self.raw_read(text),
             Call::Write { numbers, .. } => self.raw_write(numbers),
             Call::Rows { particulars, half_breadths, .. } => self.raw_rows(particulars, half_breadths),
             Call::Display { row } => self.raw_display(row),
-            Call::Condition { items, tanks, rows } => self.raw_condition(items, tanks, rows),
+            Call::Condition { reading, items, tanks, rows } => self.raw_condition(*reading, items, tanks, rows),
             Call::Step { step, .. } => self.raw_step(step),
             Call::Aboard { tally, tanks, rows } => self.raw_aboard(tally, tanks, rows),
         };
         self
     }
 
-    fn raw_report(&mut self, text: &[u8]) -> u64 {
+    fn raw_report(&mut self, reading: Reading, text: &[u8]) -> u64 {
+        let call = raw::report(reading);
         let (room, length) = (self.room.as_mut_ptr(), self.room.len());
         let mut written = self.values[0] as usize;
         // SAFETY, here and below: every pointer comes from a live slice, vector or array with its length.
-        let number =
-            unsafe { raw::rugulosca_report(text.as_ptr(), text.len(), room, length, &mut written, &mut self.place) };
+        let number = unsafe { call(text.as_ptr(), text.len(), room, length, &mut written, &mut self.place) };
         self.values[0] = written as u64;
         number
     }
@@ -142,9 +142,10 @@ impl Observation {
         number
     }
 
-    fn raw_condition(&mut self, items: &[i64], tanks: &[i64], rows: &[u64]) -> u64 {
+    fn raw_condition(&mut self, reading: Reading, items: &[i64], tanks: &[i64], rows: &[u64]) -> u64 {
+        let call = raw::condition(reading);
         self.settle(|wholes, signed, tangent, place| unsafe {
-            raw::rugulosca_condition(
+            call(
                 items.as_ptr(),
                 items.len(),
                 tanks.as_ptr(),
@@ -200,8 +201,8 @@ impl Observation {
     /// The call through a calculation, over slices.
     pub fn by_calculation(mut self, calculation: &Calculation, call: &Call) -> Observation {
         match call {
-            Call::Report { text, .. } => {
-                let answer = (calculation.report)(text, &mut self.room);
+            Call::Report { reading, text, .. } => {
+                let answer = (calculation.report)(*reading, text, &mut self.room);
                 self.note(answer, |length, values| values[0] = length as u64);
             }
             Call::Read { text, .. } => {
@@ -223,8 +224,8 @@ impl Observation {
                 let answer = (calculation.display)(row);
                 self.note(answer, |figures, values| values[..7].copy_from_slice(&figures.map(f64::to_bits)));
             }
-            Call::Condition { items, tanks, rows } => {
-                let answer = (calculation.condition)(items, tanks, rows);
+            Call::Condition { reading, items, tanks, rows } => {
+                let answer = (calculation.condition)(*reading, items, tanks, rows);
                 self.note(answer, note_condition);
             }
             Call::Step { step, .. } => {

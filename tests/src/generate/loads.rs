@@ -1,7 +1,7 @@
 //! Items and tanks: any within their ranges, or aimed at a weight, a GM and a heel near the paper's limits.
 
 use super::random::Random;
-use crate::calls::Condition;
+use crate::calls::{Condition, Reading};
 use crate::peer;
 use crate::peer::condition::PRESSED_UP;
 use crate::peer::ranges::{ITEM, MOST_ITEMS, MOST_TANKS, ROW, TANK};
@@ -39,18 +39,19 @@ fn counts(random: &mut Random) -> (usize, usize) {
     }
 }
 
-/// A load whose weight, GM and transverse moment are aimed by the rows it will lie on.
+/// A load whose weight, GM and transverse moment are aimed by the rows it will lie on, for either reading of KM.
 pub fn aimed(random: &mut Random, rows: &[u64]) -> Tables {
+    let reading = random.pick(&Reading::BOTH);
     let weight = aimed_weight(random, rows);
     let mut tables = of_weight(random, weight);
     if random.one_in(40) {
         overfill(random, &mut tables.1);
     }
     if !random.one_in(8) {
-        aim_height(random, &mut tables, rows);
+        aim_height(random, reading, &mut tables, rows);
     }
     if !random.one_in(8) {
-        aim_heel(random, &mut tables, rows);
+        aim_heel(random, reading, &mut tables, rows);
     }
     tables
 }
@@ -146,8 +147,8 @@ pub fn overfill(random: &mut Random, tanks: &mut [i64]) {
 }
 
 /// Puts every centre at the height that gives a wanted GM, or near it.
-fn aim_height(random: &mut Random, tables: &mut Tables, rows: &[u64]) {
-    let Ok(low) = peer::condition(&tables.0, &tables.1, rows) else { return };
+fn aim_height(random: &mut Random, reading: Reading, tables: &mut Tables, rows: &[u64]) {
+    let Ok(low) = peer::condition(reading, &tables.0, &tables.1, rows) else { return };
     let any = random.between(-500, 3_000);
     let even = even_gm(low.weight) * random.between(1, 3);
     let wanted = random.pick(&[-1, 0, 1, 2, 149, 150, 151, even, even, any, any, any]);
@@ -173,8 +174,8 @@ fn set(table: &mut [i64], record: usize, place: usize, number: i64) {
 }
 
 /// Moves the records sideways for a wanted transverse moment: none, any, or one at the heel limit.
-fn aim_heel(random: &mut Random, tables: &mut Tables, rows: &[u64]) {
-    let Ok(upright) = peer::condition(&tables.0, &tables.1, rows) else { return };
+fn aim_heel(random: &mut Random, reading: Reading, tables: &mut Tables, rows: &[u64]) {
+    let Ok(upright) = peer::condition(reading, &tables.0, &tables.1, rows) else { return };
     let Condition { weight, gm, .. } = upright;
     let limit = 1_763 * weight as i64 * gm.max(1) / 10_000;
     let any = random.between(0, 2 * limit);

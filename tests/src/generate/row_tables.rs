@@ -9,10 +9,10 @@ use crate::peer::ranges::{MOST_ROWS, ROW};
 const NUMBERS: usize = ROW.len();
 /// Where the numbers that hang together stand in a row.
 const DRAFT: usize = 0;
-const DISPLACEMENT: usize = 1;
+pub const DISPLACEMENT: usize = 1;
 const KB: usize = 3;
 const BM: usize = 4;
-const KM: usize = 5;
+pub const KM: usize = 5;
 
 /// A table that can be used: of a hull, or with any numbers that fit together.
 pub fn usable(random: &mut Random) -> Vec<u64> {

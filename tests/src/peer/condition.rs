@@ -3,7 +3,7 @@
 use super::ranges::{try_record_sizes, try_records, Range, ITEM, ITEM_PLACES, MOST_ROWS, ROW, TANK, TANK_PLACES};
 use super::rows::ROW_NUMBERS;
 use super::{refusals, refuse, size_is_right, tables};
-use crate::calls::{Condition, Heel, Refusal};
+use crate::calls::{Condition, Heel, Reading, Refusal};
 
 const LEAST_GM: i64 = 150;
 /// The tangent of the greatest heel, 1,763 in 10,000.
@@ -16,7 +16,7 @@ const FEWEST_ROWS: usize = 2;
 const SPACING: Range = Range { least: 10, greatest: 500 };
 
 /// The loading condition of items and tanks over a table of rows.
-pub fn condition(items: &[i64], tanks: &[i64], rows: &[u64]) -> Result<Condition, Refusal> {
+pub fn condition(reading: Reading, items: &[i64], tanks: &[i64], rows: &[u64]) -> Result<Condition, Refusal> {
     try_record_sizes(items, tanks)?;
     let (rows, rest) = rows.as_chunks::<ROW_NUMBERS>();
     size_is_right(rest.is_empty() && (FEWEST_ROWS..=MOST_ROWS).contains(&rows.len()), tables::ROWS)?;
@@ -32,7 +32,7 @@ pub fn condition(items: &[i64], tanks: &[i64], rows: &[u64]) -> Result<Condition
     if load.weight > rows[rows.len() - 1][1] {
         return refuse(refusals::WEIGHT_ABOVE, 0);
     }
-    Ok(settle(&load, rows))
+    Ok(settle(reading, &load, rows))
 }
 
 /// The first row that is not usable: numbers in range, drafts in step, displacements rising, KB + BM beside KM.
@@ -108,8 +108,8 @@ pub fn free_surface(tank: &[i64; 8]) -> u64 {
 }
 
 /// The condition of a load that the rows can carry.
-fn settle(load: &Load, rows: &[[u64; ROW_NUMBERS]]) -> Condition {
-    let (draft, km) = draft_and_km(load.weight, rows);
+fn settle(reading: Reading, load: &Load, rows: &[[u64; ROW_NUMBERS]]) -> Condition {
+    let (draft, km) = draft_and_km(reading, load.weight, rows);
     let centre = (load.vertical_moment + load.free_surface).div_ceil(load.weight);
     let gm = km as i64 - centre as i64;
     let heel = heel(load.weight as i64, gm, load.transverse_moment);
@@ -127,17 +127,20 @@ fn settle(load: &Load, rows: &[[u64; ROW_NUMBERS]]) -> Condition {
     }
 }
 
-/// Draft and KM on the straight line from the last row not above the weight to the next.
-fn draft_and_km(weight: u64, rows: &[[u64; ROW_NUMBERS]]) -> (u64, u64) {
+/// Draft and KM of a row at its own weight. Between two rows the draft is on their straight line, and KM as it is read.
+fn draft_and_km(reading: Reading, weight: u64, rows: &[[u64; ROW_NUMBERS]]) -> (u64, u64) {
     let above = rows.iter().position(|row| row[1] > weight).unwrap_or(rows.len());
-    let lower = &rows[above - 1];
-    let Some(upper) = rows.get(above) else {
-        return (lower[0], lower[5]);
+    let &[lower_draft, lower_weight, _, _, _, lower_km, _] = &rows[above - 1];
+    if weight == lower_weight {
+        return (lower_draft, lower_km);
+    }
+    let &[upper_draft, upper_weight, _, _, _, upper_km, _] = &rows[above];
+    let (gap, part) = (upper_weight - lower_weight, weight - lower_weight);
+    let draft = lower_draft + (upper_draft - lower_draft) * part / gap;
+    let km = match reading {
+        Reading::Lesser => lower_km.min(upper_km),
+        Reading::StraightLine => (lower_km * (gap - part) + upper_km * part) / gap,
     };
-    let (gap, part) = (upper[1] - lower[1], weight - lower[1]);
-    let spacing = upper[0] - lower[0];
-    let draft = lower[0] + spacing * part / gap;
-    let km = (lower[5] * (gap - part) + upper[5] * part) / gap;
     (draft, km)
 }
 

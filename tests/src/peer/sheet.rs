@@ -5,7 +5,7 @@ use super::pen::Pen;
 use super::ranges::MOST_ROWS;
 use super::reader::OffsetFile;
 use super::rows::{fill_rows, ROW_NUMBERS, ROW_ROOM};
-use crate::calls::{Condition, Heel, Refusal};
+use crate::calls::{Condition, Heel, Reading, Refusal};
 
 /// Every number at its greatest length; an E line is shorter than a C line.
 const LONGEST_ROW_LINE: usize = "R 10000 17600000 100000 10000 100000 100000 1600000000\n".len();
@@ -16,22 +16,22 @@ const LONGEST_SHEET: usize = MOST_ROWS * LONGEST_ROW_LINE + LONGEST_CONDITION_LI
 type SheetPen = Pen<LONGEST_SHEET>;
 
 /// From a file's text to the sheet's lines; answers the bytes of the sheet.
-pub fn report(text: &[u8], room: &mut [u8]) -> Result<usize, Refusal> {
+pub fn report(reading: Reading, text: &[u8], room: &mut [u8]) -> Result<usize, Refusal> {
     let mut pen = SheetPen::new();
-    if let Err(refusal) = print(text, &mut pen) {
+    if let Err(refusal) = print(reading, text, &mut pen) {
         print_refusal(refusal, &mut pen);
     }
     pen.give(room)
 }
 
 /// Prints the sheet, or gives back the refusal that comes before the rows; they need not try again what the reader has.
-fn print(text: &[u8], pen: &mut SheetPen) -> Result<(), Refusal> {
+fn print(reading: Reading, text: &[u8], pen: &mut SheetPen) -> Result<(), Refusal> {
     let mut file = OffsetFile::blank();
     file.take(text)?;
     let mut table = [0; ROW_ROOM];
     let count = fill_rows(file.half_breadths(), &file.particulars, &mut table)?;
     let rows = &table[..count * ROW_NUMBERS];
-    match condition(file.items(), file.tanks(), rows) {
+    match condition(reading, file.items(), file.tanks(), rows) {
         Ok(condition) => print_condition(&condition, pen),
         Err(refusal) => print_refusal(refusal, pen),
     }

@@ -5,7 +5,7 @@
 use super::condition::condition;
 use super::ranges::{try_records, ITEM, MOST_ITEMS};
 use super::{refusals, refuse};
-use crate::calls::{Condition, Refusal, Tally};
+use crate::calls::{Condition, Reading, Refusal, Tally};
 
 pub const SLOTS: usize = MOST_ITEMS;
 /// A mark, and the item's numbers.
@@ -57,7 +57,7 @@ pub fn condition_aboard(tally: &Tally, tanks: &[i64], rows: &[u64]) -> Result<Co
             count += 1;
         }
     }
-    condition(items[..count].as_flattened(), tanks, rows)
+    condition(Reading::default(), items[..count].as_flattened(), tanks, rows)
 }
 
 /// Tries the x, y and z of a shift for refusal 4; their places are those in an item.

@@ -4,8 +4,8 @@ use super::condition::{free_surface, passes};
 use super::ranges::{ITEM, ITEM_PLACES, TANK};
 use super::rows::multipliers;
 use super::{condition, read, report, rows};
-use crate::calls::{Heel, Refusal};
-use crate::samples::{SAMPLE_FILE, SAMPLE_SHEET};
+use crate::calls::{Heel, Reading, Refusal};
+use crate::samples::{sample_sheet, SAMPLE_FILE};
 
 fn refused<T>(number: u64, place: usize) -> Result<T, Refusal> {
     Err(Refusal { number, place })
@@ -79,18 +79,20 @@ fn least_gm() {
 }
 
 fn assert_sample_sheet(text: &str) {
-    let mut room = [0; 3_173];
-    let length = report(text.as_bytes(), &mut room).expect("the room is long enough");
-    assert_eq!(std::str::from_utf8(&room[..length]), Ok(SAMPLE_SHEET));
+    for reading in Reading::BOTH {
+        let mut room = [0; 3_173];
+        let length = report(reading, text.as_bytes(), &mut room).expect("the room is long enough");
+        assert_eq!(std::str::from_utf8(&room[..length]), Ok(sample_sheet(reading).as_str()));
+    }
 }
 
 #[test]
-fn sample_sheet() {
+fn sheet_of_the_sample() {
     assert_sample_sheet(SAMPLE_FILE);
 }
 
 #[test]
-fn sample_sheet_from_other_editors() {
+fn sheet_of_the_sample_from_other_editors() {
     assert_sample_sheet(&SAMPLE_FILE.replace('\n', "\r\n"));
     assert_sample_sheet(&SAMPLE_FILE.replace(' ', "\t"));
     assert_sample_sheet(&SAMPLE_FILE.replace('\n', "\r").replace(' ', "\t0"));
@@ -103,8 +105,38 @@ fn places_count_numbers_of_a_table() {
     let table = [20, 1, 0, 10, 0, 10, 0, 30, 2, 0, 10, 0, 10, 0];
     let mut items = [0; 2 * ITEM.len()];
     items[6] = 10_001;
-    assert_eq!(condition(&items, &[], &table), refused(4, ITEM_PLACES + 6));
+    assert_eq!(condition(Reading::default(), &items, &[], &table), refused(4, ITEM_PLACES + 6));
     let mut tanks = [1; 2 * TANK.len()];
     tanks[8] = 2;
-    assert_eq!(condition(&[], &tanks, &table), refused(13, 2_008));
+    assert_eq!(condition(Reading::default(), &[], &tanks, &table), refused(13, 2_008));
+}
+
+/// Draft and KM of an item on three rows, KM rising from the first to the second and falling to the third.
+fn draft_and_km(reading: Reading, weight: i64) -> [u64; 2] {
+    let rows = [
+        [600, 100_000, 0, 250, 1_750, 2_000, 0],
+        [900, 200_000, 0, 400, 2_600, 3_000, 0],
+        [1_200, 300_000, 0, 500, 2_000, 2_500, 0],
+    ];
+    let laden = condition(reading, &[weight, 0, 0, 0], &[], rows.as_flattened()).expect("the rows carry the weight");
+    [laden.draft, laden.km]
+}
+
+#[test]
+fn metacentre_at_a_row() {
+    for reading in Reading::BOTH {
+        assert_eq!(draft_and_km(reading, 100_000), [600, 2_000]);
+        assert_eq!(draft_and_km(reading, 200_000), [900, 3_000]);
+        assert_eq!(draft_and_km(reading, 300_000), [1_200, 2_500]);
+    }
+}
+
+#[test]
+fn metacentre_between_rows() {
+    assert_eq!(draft_and_km(Reading::Lesser, 100_001), [600, 2_000]);
+    assert_eq!(draft_and_km(Reading::Lesser, 199_999), [899, 2_000]);
+    assert_eq!(draft_and_km(Reading::Lesser, 200_001), [900, 2_500]);
+    assert_eq!(draft_and_km(Reading::Lesser, 299_999), [1_199, 2_500]);
+    assert_eq!(draft_and_km(Reading::StraightLine, 199_999), [899, 2_999]);
+    assert_eq!(draft_and_km(Reading::StraightLine, 249_999), [1_049, 2_750]);
 }

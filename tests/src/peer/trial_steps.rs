@@ -2,7 +2,7 @@
 
 use super::{condition, condition_aboard, History};
 use crate::calculation::PEER;
-use crate::calls::{Refusal, Tally};
+use crate::calls::{Reading, Refusal, Tally};
 use crate::step::Step;
 
 const LOAD: Step = Step::Load { slot: 3, item: [2_000, 5_000, -100, 900] };
@@ -104,7 +104,7 @@ fn condition_aboard_is_the_condition_of_its_items() {
     let rows = [600, 1_000, 9_000, 250, 1_750, 2_000, 1, 900, 4_000, 9_000, 400, 2_600, 3_000, 1];
     let tanks = [500, 800, 9_000, 0, 500, 400, 200, 1_000];
     let answer = condition_aboard(&handed_in(), &tanks, &rows);
-    assert_eq!(answer, condition(&LOADED[1..], &tanks, &rows));
+    assert_eq!(answer, condition(Reading::Lesser, &LOADED[1..], &tanks, &rows));
     assert_eq!(answer.map(|condition| condition.weight), Ok(2_500));
     assert_eq!(condition_aboard(&Tally::EMPTY, &[], &rows), Err(Refusal { number: 11, place: 0 }));
 }
