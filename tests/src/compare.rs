@@ -3,7 +3,9 @@
 mod history;
 mod observation;
 mod outcomes;
+mod readings;
 mod round_trip;
+mod settled;
 mod spellings;
 
 use crate::calculation::{LIBRARY, PEER};
@@ -40,7 +42,7 @@ pub fn replay(seed: u64, number: u64) -> bool {
     let case = Case::generate(seed, number);
     println!("{case:?}");
     match &case {
-        Case::Call(call) => show(call),
+        Case::Call(call) => call.by_straight_line().iter().chain([call]).for_each(show),
         Case::History(steps) => {
             for (call, list) in history::calls(steps) {
                 show(&call);
@@ -61,10 +63,17 @@ fn show(call: &Call) {
     println!("peer: {:?}", before.by_calculation(&PEER, call));
 }
 
-/// Examines each call of a case; the steps of a history must also be the list's.
+/// Examines each call of a case; the steps of a history must also be the list's, and the two readings of KM must fit.
 fn examine(case: &Case, wrapped: bool, outcomes: &mut Outcomes) -> Result<(), String> {
     match case {
-        Case::Call(call) => outcomes.add(&Outcome::of(call, &examine_call(call, wrapped)?)),
+        Case::Call(call) => {
+            let library = examine_call(call, wrapped)?;
+            let mut outcome = Outcome::of(call, &library);
+            if let Some(other) = call.by_straight_line() {
+                outcome.readings = readings::examine(call, &library, &examine_call(&other, wrapped)?)?;
+            }
+            outcomes.add(&outcome);
+        }
         Case::History(steps) => {
             for (i, (call, list)) in history::calls(steps).iter().enumerate() {
                 let library =

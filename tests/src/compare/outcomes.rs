@@ -1,8 +1,10 @@
 //! Counts of outcomes by call, and what the papers let come out that never did.
 
 use super::observation::Observation;
+use super::readings::{flotation, FLOTATIONS, READINGS};
+use super::settled::{Settled, HEELS};
 use super::spellings::{in_text, in_token, IN_TEXTS, IN_TOKENS};
-use crate::calls::Tally;
+use crate::calls::{Refusal, Tally};
 use crate::generate::Call;
 use crate::peer::condition::PRESSED_UP;
 use crate::peer::ranges::{ITEM, TANK};
@@ -70,20 +72,22 @@ const REFUSALS: [&str; 23] = [
     "",
     "22 tally not sound",
 ];
-const HEELS: [&str; 4] = ["unstable", "upright", "heeled", "beyond"];
 const VERDICTS: [&str; 2] = ["does not pass", "passes"];
 const SETTLING_CALLS: [usize; 3] = [REPORT, CONDITION, ABOARD];
+const CALLS_BY_READING: [usize; 2] = [REPORT, CONDITION];
 const FILLINGS: [&str; 5] = ["empty", "slack", "at 98 per cent", "above it", "full"];
 const STATES: [&str; 4] = ["empty", "full", "with another mark than 1", "with something in an empty slot"];
 
-/// What came out of one call: 0 or the refusal's number, how the vessel lies where that was found, how many of the
-/// condition's tanks are filled how, in which states the tally was that a step was answered on, and what editors left in
-/// the text that was read or in its token that is no number.
+/// What came out of one call: 0 or the refusal's number, how the vessel lies and where it floats where that was found,
+/// what the other reading of KM made of it, how many of the condition's tanks are filled how, in which states the tally
+/// was that a step was answered on, and what editors left in the text that was read or in its token that is no number.
 pub struct Outcome {
     call: usize,
     refusal: usize,
     place: usize,
     lies: Option<(usize, usize)>,
+    flotation: [bool; FLOTATIONS.len()],
+    pub readings: [bool; READINGS.len()],
     fillings: [u64; FILLINGS.len()],
     states: [bool; STATES.len()],
     in_text: [bool; IN_TEXTS.len()],
@@ -97,19 +101,26 @@ impl Outcome {
             refusal: seen.number as usize,
             place: seen.place,
             lies: None,
+            flotation: Default::default(),
+            readings: Default::default(),
             fillings: Default::default(),
             states: Default::default(),
             in_text: Default::default(),
             in_token: Default::default(),
         };
+        match Settled::of(call, seen) {
+            Some(Ok(settled)) => {
+                outcome.lies = Some((settled.lies, settled.passes));
+                outcome.flotation = flotation(&settled);
+            }
+            Some(Err(Refusal { number, place })) => (outcome.refusal, outcome.place) = (number as usize, place),
+            None => {}
+        }
         if seen.number == 0 {
             match call {
-                Call::Report { .. } => outcome.take_sheet(&seen.room[..seen.values[0] as usize]),
                 Call::Condition { tanks, .. } => {
-                    outcome.take_condition(seen);
                     tanks.chunks(TANK.len()).for_each(|tank| outcome.fillings[filling(tank[0], tank[1])] += 1);
                 }
-                Call::Aboard { .. } => outcome.take_condition(seen),
                 Call::Step { tally, .. } => outcome.states = states(tally),
                 Call::Read { text, .. } => outcome.in_text = in_text(text),
                 _ => {}
@@ -119,23 +130,6 @@ impl Outcome {
             outcome.in_token = in_token(text, seen.place);
         }
         outcome
-    }
-
-    fn take_condition(&mut self, seen: &Observation) {
-        self.lies = Some((seen.values[6] as usize, seen.values[7] as usize));
-    }
-
-    /// Takes a sheet's last line: a condition's word and verdict, or a refusal.
-    fn take_sheet(&mut self, sheet: &[u8]) {
-        let sheet = String::from_utf8_lossy(sheet);
-        let words: Vec<&str> = sheet.lines().last().unwrap_or_default().split(' ').collect();
-        let number = |word: &str| word.parse().expect("the sheet has a number there");
-        if words[0] == "E" {
-            (self.refusal, self.place) = (number(words[1]), number(words[2]));
-        } else {
-            let lies = HEELS.iter().position(|heel| *heel == words[9]).expect("the sheet has a heel's word");
-            self.lies = Some((lies, number(words[10])));
-        }
     }
 }
 
@@ -180,6 +174,8 @@ pub struct Outcomes {
     refusals: [[u64; REFUSALS.len()]; CALLS.len()],
     heels: [[u64; HEELS.len()]; CALLS.len()],
     verdicts: [[u64; VERDICTS.len()]; CALLS.len()],
+    flotations: [[u64; FLOTATIONS.len()]; CALLS.len()],
+    readings: [[u64; READINGS.len()]; CALLS.len()],
     /// Those of the places to be seen that were.
     places: BTreeSet<(usize, usize, usize)>,
     fillings: [u64; FILLINGS.len()],
@@ -199,6 +195,8 @@ impl Outcomes {
             self.heels[call][heel] += 1;
             self.verdicts[call][verdict] += 1;
         }
+        count(&mut self.flotations[call], outcome.flotation);
+        count(&mut self.readings[call], outcome.readings);
         for (all, here) in self.fillings.iter_mut().zip(outcome.fillings) {
             *all += here;
         }
@@ -212,6 +210,8 @@ impl Outcomes {
         print_group(&REFUSALS, &self.refusals);
         print_group(&HEELS, &self.heels);
         print_group(&VERDICTS, &self.verdicts);
+        print_group(&FLOTATIONS, &self.flotations);
+        print_group(&READINGS, &self.readings);
         println!("tanks of conditions: {}", listed(&FILLINGS, &self.fillings));
         println!("tallies of answered steps: {}", listed(&STATES, &self.states));
         println!("texts read with {}", listed(&IN_TEXTS, &self.in_texts));
@@ -241,6 +241,10 @@ impl Outcomes {
         for call in SETTLING_CALLS {
             missing.extend(never(CALLS[call], &HEELS, &self.heels[call]));
             missing.extend(never(CALLS[call], &VERDICTS, &self.verdicts[call]));
+            missing.extend(never(CALLS[call], &FLOTATIONS, &self.flotations[call]));
+        }
+        for call in CALLS_BY_READING {
+            missing.extend(never(CALLS[call], &READINGS, &self.readings[call]));
         }
         missing.extend(never("tank", &FILLINGS, &self.fillings));
         missing.extend(never("tally", &STATES, &self.states));
