@@ -1,5 +1,5 @@
-/* The smallest program around the library: the sheet of the file on standard input, on standard output. Before it, a
- * tally on a barge of the program's own: what a crane panel does for a lift. */
+/* The smallest program around the library: the sheet of the file on standard input, on standard output. Before it, on a
+ * barge of the program's own, a tally, which is what a crane panel does for a lift, and a load by both readings of KM. */
 #include <assert.h>
 #include <stdio.h>
 
@@ -47,6 +47,19 @@ static void lift(void) {
     assert(refusal == 0 && tally.totals[0] == 60000 && gm_of(&tally) == 638);
 }
 
+/* GM of 50 t, between the first two rows, by the call that is given. */
+static int64_t gm_by(uint64_t (*condition)(const int64_t *, size_t, const int64_t *, size_t, const uint64_t *, size_t,
+                                           uint64_t *, int64_t *, double *, size_t *)) {
+    const int64_t cargo[4] = {50000, 5000, 0, 1000};
+    uint64_t wholes[8];
+    int64_t signed_numbers[2];
+    double tangent;
+    size_t place;
+    uint64_t refusal = condition(cargo, 4, no_tanks, 0, rows, 21, wholes, signed_numbers, &tangent, &place);
+    assert(refusal == 0);
+    return signed_numbers[0];
+}
+
 int main(void) {
     static uint8_t text[16385];
     uint8_t sheet[RUGULOSCA_LONGEST_SHEET];
@@ -54,6 +67,8 @@ int main(void) {
     size_t place = 0;
     size_t read;
     lift();
+    assert(gm_by(rugulosca_condition) == 638);
+    assert(gm_by(rugulosca_condition_straight_line) == 735);
     read = fread(text, 1, sizeof text, stdin);
     /* room for the longest sheet is never too short, so this is never refused */
     rugulosca_report(text, read, sheet, sizeof sheet, &count, &place);
