@@ -3,6 +3,7 @@ use crate::say;
 use loading::Answer;
 use loading::Condition;
 use loading::Heel;
+use loading::Reading;
 use ranges::Refusal;
 
 const ROWS: [u64; 21] = [
@@ -48,7 +49,10 @@ const BAD_ROWS: [u64; 14] = [
 ];
 
 pub(crate) fn print_all() {
-    weights();
+    say::bytes(b"weights\n");
+    weights(Reading::Lesser);
+    say::bytes(b"weights by the straight line\n");
+    weights(Reading::StraightLine);
     metacentric_heights();
     heels();
     tanks();
@@ -60,18 +64,25 @@ fn one(kg: i64, y: i64, z: i64) {
     try_load(&[kg, 9_000, y, z], &[], &ROWS);
 }
 
-// At each row's own weight and between rows, just too light and just too heavy.
-fn weights() {
-    say::bytes(b"weights\n");
-    one(99_999, 0, 1_000);
-    one(100_000, 0, 1_000);
-    one(150_001, 0, 1_000);
-    one(199_999, 0, 1_000);
-    one(200_000, 0, 1_000);
-    one(249_999, 0, 1_000);
-    one(299_999, 0, 1_000);
-    one(300_000, 0, 1_000);
-    try_load(&[300_000, 0, 0, 0, 1, 0, 0, 0], &[], &ROWS);
+// At each row's own weight, a kilogram beside it and between rows, just too light and just too heavy.
+fn weights(reading: Reading) {
+    two(reading, 99_999, 0);
+    two(reading, 100_000, 0);
+    two(reading, 100_001, 0);
+    two(reading, 150_001, 0);
+    two(reading, 199_999, 0);
+    two(reading, 200_000, 0);
+    two(reading, 200_001, 0);
+    two(reading, 249_999, 0);
+    two(reading, 299_999, 0);
+    two(reading, 300_000, 0);
+    two(reading, 300_000, 1);
+}
+
+// Two items of these weights, a metre up, at 9 m from station 0.
+fn two(reading: Reading, kg: i64, more: i64) {
+    let items = [kg, 9_000, 0, 1_000, more, 9_000, 0, 1_000];
+    print_answer(loading::condition_by(reading, &items, &[], &ROWS));
 }
 
 // GM of 150, 149, 1, 0 and below.
@@ -155,9 +166,13 @@ fn refused_numbers() {
     try_load(&[], &[2, 1, 0, 0, 0, 1, 1, 1_500], &ROWS);
 }
 
-// Prints what a load comes to.
+// Prints what a load comes to by the default reading.
 fn try_load(items: &[i64], tanks: &[i64], rows: &[u64]) {
-    match loading::condition_of(items, tanks, rows) {
+    print_answer(loading::condition_of(items, tanks, rows));
+}
+
+fn print_answer(answer: Answer) {
+    match answer {
         Answer::Refused(refusal) => print_refusal(refusal),
         Answer::Laden(condition) => print_condition(condition),
     }

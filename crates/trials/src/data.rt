@@ -2,20 +2,19 @@
 ghost use Prim.Native.Nat.{_+_, _≤_};
 ghost use lib.ListN.{length};
 ghost use Rattle.io.specs.Counts.{Counts};
+use loading::Reading;
 
 // Files are numbered by three digits.
 pub(crate) const NUMBERS: u64 = 1_000;
 
 // No name is longer.
-const LONGEST_NAME: usize = 16;
+const LONGEST_NAME: usize = 21;
 
-// Where the number stands in the name of a tally's file.
-const TALLY_NUMBER: usize = 6;
-
-// What a file holds: the offsets of NNN.txt and the sheet of NNN.out; the steps of tally-NNN.in and the answers of tally-NNN.out.
+// What a file holds: the offsets of NNN.txt and the sheet of NNN.out, or of straight-line-NNN.txt and straight-line-NNN.out where KM is read
+// so; the steps of tally-NNN.in and the answers of tally-NNN.out.
 pub(crate) enum Kind {
-    Offsets,
-    Sheet,
+    Offsets(Reading),
+    Sheet(Reading),
     Steps,
     Answers,
 }
@@ -43,25 +42,38 @@ fn put(piece: &[u8], name: &mut [u8], at: usize)
     bytes::copy(piece, &mut name[at..]);
 }
 
-// Opens the file of a number, given the name of number 000 and the place of the number in it.
-fn open_named(first: &[u8], at: usize, i: u64) -> i32
-    requires { ⌜ (at + 3 ≤ length (now first)) × (length (now first) ≤ 16) ⌝ }
+// Opens the file whose name is a number between a start and an end.
+fn open_named(start: &[u8], i: u64, end: &[u8]) -> i32
+    requires { ⌜ length (now start) + 3 + length (now end) ≤ 21 ⌝ }
 {
     let number = [digit(i / 100), digit(i / 10), digit(i)];
     let mut name = [0u8; LONGEST_NAME];
-    put(first, &mut name, 0);
+    let at = start.len();
+    let after = at + number.len();
+    let whole = after + end.len();
+    put(start, &mut name, 0);
     put(&number, &mut name, at);
-    let end = first.len();
-    os::open_read(&name[0..end])
+    put(end, &mut name, after);
+    os::open_read(&name[0..whole])
+}
+
+// Opens the file of offsets or of a sheet by the reading asked of it.
+fn open_by(reading: Reading, i: u64, end: &[u8]) -> i32
+    requires { ⌜ length (now end) ≤ 4 ⌝ }
+{
+    match reading {
+        Reading::Lesser => open_named(b"", i, end),
+        Reading::StraightLine => open_named(b"straight-line-", i, end),
+    }
 }
 
 // Opens the file of this kind and number.
 fn open(kind: Kind, i: u64) -> i32 {
     match kind {
-        Kind::Offsets => open_named(b"000.txt", 0, i),
-        Kind::Sheet => open_named(b"000.out", 0, i),
-        Kind::Steps => open_named(b"tally-000.in", TALLY_NUMBER, i),
-        Kind::Answers => open_named(b"tally-000.out", TALLY_NUMBER, i),
+        Kind::Offsets(reading) => open_by(reading, i, b".txt"),
+        Kind::Sheet(reading) => open_by(reading, i, b".out"),
+        Kind::Steps => open_named(b"tally-", i, b".in"),
+        Kind::Answers => open_named(b"tally-", i, b".out"),
     }
 }
 

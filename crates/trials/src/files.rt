@@ -1,9 +1,10 @@
-// The offset files of data/: every NNN.txt with the answer NNN.out beside it. Below 900 an independent calculation's, from 900 on the papers' own figures and rules.
+// The offset files of data/: every NNN.txt with the answer NNN.out beside it, and every straight-line-NNN.txt with its own. Below 900 an independent calculation's, from 900 on the papers' own figures and rules.
 ghost use Prim.Native.Nat.{_≤_};
 ghost use Rattle.ranges.specs.Sizes.{roomForHalfBreadths};
 use crate::data;
 use crate::data::Kind;
 use crate::say;
+use loading::Reading;
 use offsets::Read;
 use offsets::Written;
 use ranges::Particulars;
@@ -11,6 +12,9 @@ use report::Report;
 
 // There are no fewer than these, so that a lost one is noticed.
 const FEWEST: u64 = 85;
+
+// The same of those by the straight line.
+const FEWEST_BY_STRAIGHT_LINE: u64 = 72;
 
 // One byte more than a file may have.
 const LONGEST_INPUT: usize = ranges::LONGEST_FILE + 1;
@@ -23,23 +27,33 @@ struct Trial {
     changed: bool,
 }
 
-// Prints which files fail and how many, and where some are lost.
+// Tries the files of the default reading, then those of the straight line.
 pub(crate) fn try_all() {
+    try_by(Reading::DEFAULT, FEWEST, b"sheets that differ ");
+    try_by(
+        Reading::StraightLine,
+        FEWEST_BY_STRAIGHT_LINE,
+        b"sheets by the straight line that differ ",
+    );
+}
+
+// Prints which files of a reading fail and how many, after a name, and where some are lost.
+fn try_by(reading: Reading, fewest: u64, name: &[u8]) {
     let mut tried: u64 = 0;
     let mut differing: u64 = 0;
     let mut changed: u64 = 0;
     let mut i: u64 = 0;
     while i < data::NUMBERS {
-        let trial = trial_at(i);
+        let trial = trial_at(reading, i);
         tried = data::counted(tried, trial.there);
         differing = data::counted(differing, trial.differs);
         changed = data::counted(changed, trial.changed);
         print_failing(i, trial);
         i += 1;
     }
-    say::number(b"sheets that differ ", differing);
+    say::number(name, differing);
     say::number(b"files changed when written and read again ", changed);
-    if tried < FEWEST {
+    if tried < fewest {
         say::number(b"files are lost, and only these left ", tried);
     }
 }
@@ -52,9 +66,9 @@ fn print_failing(i: u64, trial: Trial) {
 }
 
 // What trying the file of this number shows; nothing where there is none.
-fn trial_at(i: u64) -> Trial {
-    if data::is_there(Kind::Offsets, i) {
-        return trial_of(i);
+fn trial_at(reading: Reading, i: u64) -> Trial {
+    if data::is_there(Kind::Offsets(reading), i) {
+        return trial_of(reading, i);
     }
     Trial {
         there: false,
@@ -63,10 +77,10 @@ fn trial_at(i: u64) -> Trial {
     }
 }
 
-fn trial_of(i: u64) -> Trial {
+fn trial_of(reading: Reading, i: u64) -> Trial {
     let mut text = [0u8; LONGEST_INPUT];
-    let count = data::read(Kind::Offsets, i, &mut text);
-    let differs = !is_answer(i, &text[..count]);
+    let count = data::read(Kind::Offsets(reading), i, &mut text);
+    let differs = !is_answer(reading, i, &text[..count]);
     let mut half_breadths = [0u64; ranges::HALF_BREADTH_ROOM];
     let mut items = [0i64; ranges::ITEM_ROOM];
     let mut tanks = [0i64; ranges::TANK_ROOM];
@@ -97,11 +111,11 @@ fn trial_of(i: u64) -> Trial {
 }
 
 // Whether the sheet of file i's text is the answer that stands beside it.
-fn is_answer(i: u64, text: &[u8]) -> bool {
+fn is_answer(reading: Reading, i: u64, text: &[u8]) -> bool {
     let mut answer = [0u8; report::LONGEST_SHEET];
-    let answer_count = data::read(Kind::Sheet, i, &mut answer);
+    let answer_count = data::read(Kind::Sheet(reading), i, &mut answer);
     let mut lines = [0u8; report::LONGEST_SHEET];
-    match report::make_report(text, &mut lines) {
+    match report::make_report_by(reading, text, &mut lines) {
         Report::Refused(_) => false,
         Report::Lines(count) => {
             let end = at_most(count, report::LONGEST_SHEET);

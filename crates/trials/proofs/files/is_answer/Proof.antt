@@ -11,11 +11,11 @@ slice-aggregate-read c = search needs
 read-requires : tie.Need-read-requires
 read-requires c κs = search needs
 
-slice-aggregate-make-report : tie.Need-slice-aggregate-make-report
-slice-aggregate-make-report c = search needs
+slice-aggregate-make-report-by : tie.Need-slice-aggregate-make-report-by
+slice-aggregate-make-report-by c = search needs
 
-make-report-requires : tie.Need-make-report-requires
-make-report-requires c κs = search needs
+make-report-by-requires : tie.Need-make-report-by-requires
+make-report-by-requires c κs = search needs
 
 enum-told : tie.Need-enum-told
 enum-told c = search needs
@@ -53,8 +53,8 @@ is-answer-spec =
     (tie.spec
     slice-aggregate-read
     read-requires
-    slice-aggregate-make-report
-    make-report-requires
+    slice-aggregate-make-report-by
+    make-report-by-requires
     enum-told
     enum-known-count
     at-most-requires

@@ -2,14 +2,14 @@
 use Prim.Native.Nat.{_≤_, _-_}
 use native.Mathlib.Omega.{arith}
 use borrow.Author.Needs.{needs}
-use Rattle.trials.proofs.files.try_all.Statement.{statement}
-use Rattle.trials.proofs.files.try_all.Tie as tie
+use Rattle.trials.proofs.files.try_by.Statement.{statement}
+use Rattle.trials.proofs.files.try_by.Tie as tie
 
 abbrev Inv-loop : tie.InvT-loop
-Inv-loop tried₀ differing₀ changed₀ i₀ t6 t7 t8 tried differing changed i = (tried ≤ i) × (differing ≤ i) × (changed ≤ i) × (i ≤ 1000)
+Inv-loop reading fewest name tried₀ differing₀ changed₀ i₀ t9 t10 tried differing changed i = (tried ≤ i) × (differing ≤ i) × (changed ≤ i) × (i ≤ 1000)
 
 abbrev μ-loop : tie.MeasureT-loop
-μ-loop tried₀ differing₀ changed₀ i₀ t6 t7 t8 tried differing changed i = 1000 - i
+μ-loop reading fewest name tried₀ differing₀ changed₀ i₀ t9 t10 tried differing changed i = 1000 - i
 
 loop-holds : tie.Need-loop-holds Inv-loop μ-loop
 loop-holds c = (omega arith, omega arith, omega arith, omega arith)
@@ -38,20 +38,17 @@ loop-less c = omega arith
 loop-again : tie.Need-loop-again Inv-loop μ-loop
 loop-again c = (omega arith, omega arith, omega arith, omega arith)
 
-slice-aggregate-number : tie.Need-slice-aggregate-number Inv-loop μ-loop
-slice-aggregate-number c = search needs
-
 number-requires : tie.Need-number-requires Inv-loop μ-loop
 number-requires c κs = search needs
 
-slice-aggregate-number-2 : tie.Need-slice-aggregate-number-2 Inv-loop μ-loop
-slice-aggregate-number-2 c = search needs
+slice-aggregate-number : tie.Need-slice-aggregate-number Inv-loop μ-loop
+slice-aggregate-number c = search needs
 
 number-requires-2 : tie.Need-number-requires-2 Inv-loop μ-loop
 number-requires-2 c κs = search needs
 
-slice-aggregate-number-3 : tie.Need-slice-aggregate-number-3 Inv-loop μ-loop
-slice-aggregate-number-3 c = search needs
+slice-aggregate-number-2 : tie.Need-slice-aggregate-number-2 Inv-loop μ-loop
+slice-aggregate-number-2 c = search needs
 
 number-requires-3 : tie.Need-number-requires-3 Inv-loop μ-loop
 number-requires-3 c κs = search needs
@@ -62,8 +59,8 @@ returns c = search needs
 returns-2 : tie.Need-returns-2 Inv-loop μ-loop
 returns-2 c = search needs
 
-pub try-all-spec : {M : Type 1} → statement M
-try-all-spec =
+pub try-by-spec : {M : Type 1} → statement M
+try-by-spec =
     tie.close
     (tie.spec
     Inv-loop
@@ -77,11 +74,10 @@ try-all-spec =
     add-i
     loop-less
     loop-again
-    slice-aggregate-number
     number-requires
-    slice-aggregate-number-2
+    slice-aggregate-number
     number-requires-2
-    slice-aggregate-number-3
+    slice-aggregate-number-2
     number-requires-3
     returns
     returns-2)
