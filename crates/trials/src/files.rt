@@ -27,9 +27,9 @@ struct Trial {
     changed: bool,
 }
 
-// Tries the files of the default reading, then those of the straight line.
+// Tries the files of the lesser KM, which is the default, then those of the straight line.
 pub(crate) fn try_all() {
-    try_by(Reading::DEFAULT, FEWEST, b"sheets that differ ");
+    try_by(Reading::Lesser, FEWEST, b"sheets that differ ");
     try_by(
         Reading::StraightLine,
         FEWEST_BY_STRAIGHT_LINE,
@@ -110,12 +110,20 @@ fn trial_of(reading: Reading, i: u64) -> Trial {
     }
 }
 
+// Makes a sheet: by the default without a name.
+fn make_sheet(reading: Reading, text: &[u8], lines: &mut [u8]) -> Report {
+    match reading {
+        Reading::Lesser => report::make_report(text, lines),
+        Reading::StraightLine => report::make_report_by(reading, text, lines),
+    }
+}
+
 // Whether the sheet of file i's text is the answer that stands beside it.
 fn is_answer(reading: Reading, i: u64, text: &[u8]) -> bool {
     let mut answer = [0u8; report::LONGEST_SHEET];
     let answer_count = data::read(Kind::Sheet(reading), i, &mut answer);
     let mut lines = [0u8; report::LONGEST_SHEET];
-    match report::make_report_by(reading, text, &mut lines) {
+    match make_sheet(reading, text, &mut lines) {
         Report::Refused(_) => false,
         Report::Lines(count) => {
             let end = at_most(count, report::LONGEST_SHEET);

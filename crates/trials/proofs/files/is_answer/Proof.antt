@@ -11,11 +11,11 @@ slice-aggregate-read c = search needs
 read-requires : tie.Need-read-requires
 read-requires c κs = search needs
 
-slice-aggregate-make-report-by : tie.Need-slice-aggregate-make-report-by
-slice-aggregate-make-report-by c = search needs
+slice-aggregate-make-sheet : tie.Need-slice-aggregate-make-sheet
+slice-aggregate-make-sheet c = search needs
 
-make-report-by-requires : tie.Need-make-report-by-requires
-make-report-by-requires c κs = search needs
+make-sheet-requires : tie.Need-make-sheet-requires
+make-sheet-requires c κs = search needs
 
 enum-told : tie.Need-enum-told
 enum-told c = search needs
@@ -53,8 +53,8 @@ is-answer-spec =
     (tie.spec
     slice-aggregate-read
     read-requires
-    slice-aggregate-make-report-by
-    make-report-by-requires
+    slice-aggregate-make-sheet
+    make-sheet-requires
     enum-told
     enum-known-count
     at-most-requires
