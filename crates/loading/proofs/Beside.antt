@@ -28,7 +28,6 @@ use Rattle.loading.specs.Private.Steady.{conditionWith}
 use Rattle.loading.specs.Records.{loadOf}
 use Rattle.loading.specs.Stability.{freeSurface, draft, km, gm}
 use Rattle.loading.specs.Table.{Table, hull, Place, on, between, placeOf, line}
-use Rattle.loading.specs.declared.Condition.{Condition}
 use Rattle.loading.specs.declared.Reading.{Reading}
 use Rattle.loading.specs.declared.Reading.the-variants.{Lesser, StraightLine}
 use Rattle.loading.proofs.Difference.{difference-le}
