@@ -23,11 +23,11 @@ fn print_sheet(reading: Reading) {
     }
 }
 
-// Says which words there are.
+// Says which words there are, where those given are others.
 fn print_usage() {
     io::write_all(
         STDERR_FILENO,
-        b"sheet: one word at most, how KM is read between two rows: lesser, as without a word, or straight-line\n",
+        b"sheet: not understood. Give no word, or one: lesser or straight-line, for how KM is read between two rows.\n",
     );
 }
 
