@@ -7,15 +7,14 @@
 use mathlib.Core.Path.{_≡_, refl, sym, ap, _∙_}
 use mathlib.Core.Bool.{Bool, true, false}
 use mathlib.Core.List.{List}
-use Prim.Native.Nat.{ℕ, _+_, _-_, _*_, _/_, _≤_, _<_, min}
-use native.Mathlib.Nat.{mul-le-mul-right, mul-add, div-one, le-of-eq}
+use Prim.Native.Nat.{ℕ, _+_, _/_, _≤_, min}
+use native.Mathlib.Nat.{div-one, le-of-eq}
 use native.Mathlib.Omega.{arith}
 use borrow.Author.Tests.{ltb-false}
 use lib.IntN.{ℤ}
 use lib.Signed.{_≤ℤ_}
 use Rattle.arithmetic.specs.Choice.{if_then_else_}
 use Rattle.arithmetic.specs.Rounding.{roundedUp}
-use Rattle.arithmetic.proofs.Rounding.{down-of, down-mono, down-whole}
 use Rattle.hydrostatics.specs.declared.Row.{Row}
 use Rattle.ranges.specs.Outcome.{Outcome, answered, refused, andThen}
 use Rattle.loading.specs.Beside.{Alike, both-answered, both-refused, NotAbove}
@@ -27,29 +26,20 @@ use Rattle.loading.specs.Private.Afloat.{Within}
 use Rattle.loading.specs.Private.Steady.{conditionWith}
 use Rattle.loading.specs.Records.{loadOf}
 use Rattle.loading.specs.Stability.{freeSurface, draft, km, gm}
-use Rattle.loading.specs.Table.{Table, hull, Place, on, between, placeOf, line}
+use Rattle.loading.specs.Table.{Table, hull, Place, on, between, placeOf}
 use Rattle.loading.specs.declared.Reading.{Reading}
 use Rattle.loading.specs.declared.Reading.the-variants.{Lesser, StraightLine}
 use Rattle.loading.proofs.Difference.{difference-le}
+use Rattle.loading.proofs.Flotation.{line-above}
 use Rattle.loading.proofs.Lowering.{pass-mono}
 use Rattle.loading.proofs.Moments.{condition-is}
 use Rattle.loading.proofs.Places.{Stands, place-stands}
 use Rattle.loading.proofs.Readings.{km-on}
 
--- a straight line is nowhere below its lower end
-line-least : (a b lo hi w : ℕ) → lo < w → w < hi → min a b ≤ line a b lo hi w / (hi - lo)
-line-least a b lo hi w low high =
-    let least = min a b in
-    let some : 0 < hi - lo = omega arith in
-    let span : hi - lo ≡ (hi - w) + (w - lo) = omega arith in
-    let first : least ≤ a = omega arith in
-    let second : least ≤ b = omega arith in
-    let under : least * (hi - lo) ≤ line a b lo hi w = omega (arith, ap (λ n. least * n) span ∙ mul-add least (hi - w) (w - lo), mul-le-mul-right (hi - w) first, mul-le-mul-right (w - lo) second) in
-    down-mono (down-whole least (hi - lo) some) (down-of (line a b lo hi w) (hi - lo) some) under
-
 pub lesser-not-above : (p : Place) (W : ℕ) → Stands W p → lesserKM p ≤ onLine p W .top / onLine p W .bottom
 lesser-not-above (on r) W h = le-of-eq (sym (div-one (r .km)))
-lesser-not-above (between r s) W h = line-least (r .km) (s .km) (r .displacement) (s .displacement) W (h .0) (h .1)
+lesser-not-above (between r s) W h =
+    line-above (r .displacement) (s .displacement) W (omega (arith, h .0)) (h .1) (r .km) (s .km) (min (r .km) (s .km)) (omega arith) (omega arith)
 
 module _ (t : Table) (l : Load) (w : Within t (weight l)) where
   km-not-above : km (paperRules Lesser) t l ≤ km (paperRules StraightLine) t l

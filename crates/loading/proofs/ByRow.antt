@@ -16,8 +16,7 @@ use Rattle.loading.specs.Private.Afloat.{RowsUsable}
 use Rattle.loading.specs.Table.{hull, tableOf, rowsFrom, Place, on, between, placeFrom, placeOf}
 use Rattle.loading.specs.declared.Condition.{Condition}
 use Rattle.loading.specs.declared.Reading.{Reading}
-use Rattle.loading.proofs.Answers.{Tried, answer-says}
-use Rattle.loading.proofs.Demand3.{ConditionOver, aboard}
+use Rattle.loading.proofs.Demand3.{ConditionOver, aboard, tried, is}
 use Rattle.loading.proofs.Order.{rows-whole}
 use Rattle.loading.proofs.Readings.{own-weight}
 use Rattle.loading.proofs.Tables.{place-next, place-on, place-between}
@@ -45,15 +44,12 @@ module _ (rows : List ℕ) (count W : ℕ) (u : RowsUsable rows count) where
       ∙ place-between rows count r W h high (λ e. omega (arith, e, low))
 
 module _ {reading : Reading} {rows : List ℕ} {c : Condition} (a : ConditionOver reading rows c) where
-  says : Tried (a .items) (a .tanks) rows × (c ≡ conditionAt reading (hull rows) (aboard a))
-  says = answer-says reading (a .items) (a .tanks) rows (a .given)
-
   usable : RowsUsable rows (length rows / rowWidth)
-  usable = record { size = rows-whole (a .items) (a .tanks) rows (says .0 .sized); usable = says .0 .rows-usable }
+  usable = record { size = rows-whole (a .items) (a .tanks) rows (tried a .sized); usable = tried a .rows-usable }
 
   read-at : (p : Place) → placeOf (hull rows) (c .weight) ≡ p → c .km ≡ ruleOf reading .given p (c .weight)
   unfolding conditionAt
-  read-at p e = rw (says .1) (ap (λ q. ruleOf reading .given q (weight (aboard a))) (rw (says .1) at e))
+  read-at p e = rw (is a) (ap (λ q. ruleOf reading .given q (weight (aboard a))) (rw (is a) at e))
 
   pub own-weight-stands : (r : ℕ) → r < length rows / rowWidth → c .weight ≡ rowIn rows r .displacement → c .km ≡ rowIn rows r .km
   own-weight-stands r h e =

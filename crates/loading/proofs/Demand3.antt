@@ -7,6 +7,7 @@
 --     lowering-never-lowers-gm, lowering-keeps-a-pass
 -- and of the tables that are lent for them:
 --     lowering-never-costs-the-answer      what was answered is answered again when it is lowered, and no worse
+--     tried, is                            what is answered was tried, and is the condition of its load
 -- The same for any sound rules of KM and free surface: `Demand`; what the laws of a rule are: `Laws`.
 -- Assumes nothing.
 use mathlib.Core.Path.{_≡_, ap₂}
@@ -43,10 +44,10 @@ module _ {reading : Reading} {rows : List ℕ} {c : Condition} (a : ConditionOve
   abbrev pub aboard : Load
   aboard = loadOf (a .items) (a .tanks)
 
-  tried : Tried (a .items) (a .tanks) rows
+  pub tried : Tried (a .items) (a .tanks) rows
   tried = answer-says reading (a .items) (a .tanks) rows (a .given) .0
 
-  is : c ≡ conditionAt reading (hull rows) aboard
+  pub is : c ≡ conditionAt reading (hull rows) aboard
   is = answer-says reading (a .items) (a .tanks) rows (a .given) .1
 
   demand : Demand3 (paperRules reading) (hull rows)

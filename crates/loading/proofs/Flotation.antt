@@ -1,5 +1,6 @@
 -- Where a weight within a usable table floats.
---     line-most                      a straight line is nowhere above its higher end
+--     line-below, line-above         a straight line is nowhere above its higher end, nor below its lower one
+--     line-most                      so it is a KM at most, if its ends are
 --     floats-on                      draft and KM at a row's own weight
 --     next-there                     at any other weight there is a row above,
 --     km-line, draft-line            W lies between the two,
@@ -25,13 +26,28 @@ use Rattle.loading.proofs.Readings.{own-weight}
 use Rattle.loading.proofs.Tables.{last-row, place-on, place-between}
 use Rattle.loading.proofs.Usability.{UsableRow, usable-at}
 
+-- a line whose ends are no higher is no higher, and one whose ends are level is level
+module _ (lo hi w : ℕ) (low : lo ≤ w) (high : w < hi) where
+  level : (c : ℕ) → line c c lo hi w ≡ c * (hi - lo)
+  level c =
+      let span : hi - lo ≡ (hi - w) + (w - lo) = omega arith in
+      sym (ap (λ n. c * n) span ∙ mul-add c (hi - w) (w - lo))
+
+  line-mono : (a b c d : ℕ) → a ≤ c → b ≤ d → line a b lo hi w ≤ line c d lo hi w
+  line-mono a b c d h k = omega (arith, mul-le-mul-right (hi - w) h, mul-le-mul-right (w - lo) k)
+
+  pub line-below : (a b top : ℕ) → a ≤ top → b ≤ top → line a b lo hi w / (hi - lo) ≤ top
+  line-below a b top h k =
+      let some : 0 < hi - lo = omega arith in
+      down-mono (down-of (line a b lo hi w) (hi - lo) some) (down-whole top (hi - lo) some) (omega (arith, level top, line-mono a b top top h k))
+
+  pub line-above : (a b least : ℕ) → least ≤ a → least ≤ b → least ≤ line a b lo hi w / (hi - lo)
+  line-above a b least h k =
+      let some : 0 < hi - lo = omega arith in
+      down-mono (down-whole least (hi - lo) some) (down-of (line a b lo hi w) (hi - lo) some) (omega (arith, level least, line-mono least least a b h k))
+
 pub line-most : {a b lo hi w : ℕ} → OnLine a b lo hi w → line a b lo hi w / (hi - lo) ≤ highestMetacentre
-line-most {a} {b} {lo} {hi} {w} l =
-    let top = highestMetacentre in
-    let some : 0 < hi - lo = omega arith in
-    let span : hi - lo ≡ (hi - w) + (w - lo) = omega arith in
-    let high : line a b lo hi w ≤ top * (hi - lo) = omega (arith, ap (λ n. top * n) span ∙ mul-add top (hi - w) (w - lo), mul-le-mul-right (hi - w) (l .first), mul-le-mul-right (w - lo) (l .second)) in
-    down-mono (down-of (line a b lo hi w) (hi - lo) some) (down-whole top (hi - lo) some) high
+line-most {a} {b} {lo} {hi} {w} l = line-below lo hi w (l .low) (l .high) a b highestMetacentre (l .first) (l .second)
 
 -- a weight within a usable table, and the row below it
 pub record Afloat (rows : List ℕ) (count W r : ℕ) (row : Row) : Type 0 where

@@ -23,9 +23,9 @@ use Rattle.loading.specs.Stability.{freeSurface, km, gm}
 use Rattle.loading.specs.Table.{Table, hull}
 use Rattle.loading.specs.declared.Condition.{Condition}
 use Rattle.loading.specs.declared.Reading.{Reading}
-use Rattle.loading.proofs.Answers.{Tried, answer-says, rows-are-usable}
+use Rattle.loading.proofs.Answers.{rows-are-usable}
 use Rattle.loading.proofs.Demand.{Passes, less-kg}
-use Rattle.loading.proofs.Demand3.{ConditionOver, aboard}
+use Rattle.loading.proofs.Demand3.{ConditionOver, aboard, tried, is}
 use Rattle.loading.proofs.Lowering.{pass-mono}
 use Rattle.loading.proofs.Adding.{total-le}
 
@@ -63,18 +63,15 @@ gm-not-less reading t l laden =
     (omega (arith, surface-is-not-more reading l))
 
 module _ {reading : Reading} {rows : List ℕ} {c : Condition} (a : ConditionOver reading rows c) where
-  says : Tried (a .items) (a .tanks) rows × (c ≡ conditionAt reading (hull rows) (aboard a))
-  says = answer-says reading (a .items) (a .tanks) rows (a .given)
-
   not-less : gm (toTheLastKilogram reading) (hull rows) (aboard a) ≤ℤ gm (paperRules reading) (hull rows) (aboard a)
   not-less =
-      gm-not-less reading (hull rows) (aboard a) (omega (arith, says .0 .within .least, rows-are-usable (says .0) .afloat))
+      gm-not-less reading (hull rows) (aboard a) (omega (arith, tried a .within .least, rows-are-usable (tried a) .afloat))
 
   pub gm-is-not-less : gm (toTheLastKilogram reading) (hull rows) (aboard a) ≤ℤ c .gm
   unfolding conditionAt
-  gm-is-not-less = rw (says .1) not-less
+  gm-is-not-less = rw (is a) not-less
 
   pub pass-is-not-lost : Passes (toTheLastKilogram reading) (hull rows) (aboard a) → T (c .passes)
   unfolding conditionAt
   pass-is-not-lost =
-      rw (says .1) (pass-mono (weight (aboard a)) (transverseMoment (aboard a)) (gm (toTheLastKilogram reading) (hull rows) (aboard a)) (gm (paperRules reading) (hull rows) (aboard a)) not-less)
+      rw (is a) (pass-mono (weight (aboard a)) (transverseMoment (aboard a)) (gm (toTheLastKilogram reading) (hull rows) (aboard a)) (gm (paperRules reading) (hull rows) (aboard a)) not-less)

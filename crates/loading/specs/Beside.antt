@@ -11,8 +11,8 @@ pub data Alike {A : Type 0} (R : A → A → Type 0) : Outcome A → Outcome A �
   both-answered : {a b : A} → R a b → Alike R (answered a) (answered b)
   both-refused : {number place : ℕ} → Alike R (refused number place) (refused number place)
 
--- what c, by the lesser KM, is beside d, by the straight line: "GM by the lesser KM is never above GM by the straight line,
--- and what passes by the lesser passes by the straight line"
+-- what c, by the lesser KM, is beside d, by the straight line: its GM is never above, what passes by it passes by the other, and on what
+-- KM has no bearing they agree
 pub record NotAbove (c d : Condition) : Type 0 where
   pub weight : c .weight ≡ d .weight
   pub draft : c .draft ≡ d .draft

@@ -24,7 +24,7 @@ unfolding rowIn
 spacing-is c = ap (λ n. n / 2) (c .number-at .ensures)
 
 returns : tie.Need-returns
-returns c = floats-on (found (c .before)) _ (c .if1 .taken)
+returns c = floats-on (found (c .before)) _ (omega (arith, c .if1 .taken))
 
 add-row-at : tie.Need-add-row-at
 add-row-at c = omega (arith, next-there (found (c .before)) (c .if1 .left))
