@@ -96,8 +96,8 @@ two-readings = record {
   default-is-the-lesser = λ k r b. read-between (over k) r (b .there) (b .above) (b .below);
   own-weight-stands = λ k. own-weight-stands (over k);
   straight-line-by-name = λ k r b. read-between (over k) r (b .there) (b .above) (b .below);
-  tally-takes-the-default = λ items tanks rows. refl;
   sheet-takes-the-default = λ text. refl;
+  tally-takes-the-default = condition-after;
   lesser-is-never-above = λ {items} {tanks} {rows} k l. subst₂ (Alike NotAbove) (sym (k .answer-is)) (sym (l .answer-is)) (readings-beside items tanks rows);
 }
 

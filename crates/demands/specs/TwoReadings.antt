@@ -7,7 +7,7 @@ use lib.ListN.{length}
 use Rattle.ranges.specs.Sizes.{rowWidth}
 use Rattle.hydrostatics.specs.Usable.{rowIn}
 use Rattle.loading.specs.Beside.{Alike, NotAbove}
-use Rattle.loading.specs.Condition.{conditionOf, conditionBy}
+use Rattle.loading.specs.Condition.{conditionBy}
 use Rattle.loading.specs.Paper.{defaultReading}
 use Rattle.loading.specs.Promise.{paper}
 use Rattle.loading.specs.Table.{line}
@@ -15,6 +15,9 @@ use Rattle.loading.specs.declared.Answer.{Answer}
 use Rattle.loading.specs.declared.Condition.{Condition}
 use Rattle.loading.specs.declared.Reading.{Reading}
 use Rattle.loading.specs.declared.Reading.the-variants.{Lesser, StraightLine}
+use Rattle.tally.specs.Condition.{conditionAboard}
+use Rattle.tally.specs.History.{Step, itemsOn, tallyAfter, listAfter}
+use Rattle.tally.specs.Tally.{tableOf}
 use Rattle.report.specs.Sheet.{sheetOf, sheetBy}
 use Rattle.demands.specs.Conditioned.{Conditioned, IsCondition}
 
@@ -35,9 +38,9 @@ pub record TwoReadings : Type 0 where
   pub straight-line-by-name : {items tanks : List ℤ} {rows : List ℕ} {c : Condition} → IsCondition StraightLine items tanks rows c
       → (r : ℕ) → StrictlyBetween rows r (c .weight)
       → c .km ≡ line (rowIn rows r .km) (rowIn rows (r + 1) .km) (rowIn rows r .displacement) (rowIn rows (r + 1) .displacement) (c .weight) / (rowIn rows (r + 1) .displacement - rowIn rows r .displacement)
-  -- "The printing program and the tally take the new default": the tally's condition is `conditionOf`'s (`RunningTally`)
-  pub tally-takes-the-default : (items tanks : List ℤ) (rows : List ℕ) → conditionOf items tanks rows ≡ conditionBy Lesser items tanks rows
+  -- "The printing program and the tally take the new default"
   pub sheet-takes-the-default : (text : List ℕ) → sheetOf text ≡ sheetBy Lesser text
+  pub tally-takes-the-default : (history : List Step) (tanks : List ℤ) (rows : List ℕ) → conditionAboard (tallyAfter history) tanks rows ≡ conditionBy Lesser (tableOf (itemsOn (listAfter history))) tanks rows
   -- with the same load and rows GM by the lesser is never above GM by the straight line, what passes by the lesser passes by the straight line,
   -- and both are answered or both refused alike
   pub lesser-is-never-above : {items tanks : List ℤ} {rows : List ℕ} {a b : Answer} → Conditioned Lesser items tanks rows a → Conditioned StraightLine items tanks rows b

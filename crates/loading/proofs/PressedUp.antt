@@ -3,7 +3,6 @@
 --     surface-is-not-more                   no load has more free surface than by it,
 --     gm-is-not-less, pass-is-not-lost      and no condition less GM, or a fail for a pass
 -- What is counted and what is not: `surface-slack`, `surface-empty`, `surface-pressed-up` of `Rectangles`. Assumes nothing.
-use mathlib.Core.Path.{_≡_}
 use mathlib.Core.Bool.{_&&_, and-eq-true-iff}
 use mathlib.Core.List.{List}
 use Prim.Native.Nat.{ℕ, _+_, _*_, _^_, _≤_, _<_}

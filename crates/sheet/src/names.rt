@@ -1,5 +1,5 @@
 // The readings of KM by name.
-ghost use Rattle.sheet.specs.Names.{Names};
+ghost use Rattle.sheet.specs.Names.{Names, Asks};
 use loading::Reading;
 
 // What a word names.
@@ -24,16 +24,22 @@ fn reading_of(word: &[u8]) -> Named
     Named::Unknown
 }
 
-// What the command line asks for: by no word the default, by one the reading of that name.
-pub(crate) fn asked() -> Named {
-    let count = os::arg_count();
-    if count < 2 {
+// What so many words ask for, the program's own name the first and this one after it.
+fn meant(words: usize, word: &[u8]) -> Named
+    ensures { λ r. ⌜ Asks words (now (word .entry)) r ⌝ }
+{
+    if words < 2 {
         return Named::By(Reading::DEFAULT);
     }
-    if 2 < count {
+    if 2 < words {
         return Named::Unknown;
     }
+    reading_of(word)
+}
+
+// What the command line asks for.
+pub(crate) fn asked() -> Named {
     let mut word = [0u8; LONGEST_NAME];
     let length = os::arg(1, &mut word);
-    reading_of(&word[..length])
+    meant(os::arg_count(), &word[..length])
 }
