@@ -21,9 +21,10 @@ use Rattle.ranges.specs.Sizes.{pointsOf, rowWidth, rowsOver}
 use Rattle.ranges.specs.declared.Particulars.{Particulars}
 use Rattle.ranges.proofs.Facts.{particulars-in-range, half-breadths-in-range}
 use Rattle.hydrostatics.specs.Promise.{paper, MakesRows}
+use Rattle.hydrostatics.specs.Row.{rowOf}
 use Rattle.hydrostatics.specs.Rows.{rowsUpTo, rowsOf}
+use Rattle.hydrostatics.specs.Private.Hull.{InRange}
 use Rattle.hydrostatics.specs.Private.Table.{FillsRows}
-use Rattle.hydrostatics.specs.Private.Waterplanes.{InRange}
 use Rattle.hydrostatics.specs.declared.Rows.{Rows}
 
 pub particulars-told : {p : Particulars} {particular : ℕ} → particular ≡ firstOutside particulars (numbersOf p) → length particulars ≤ particular → ParticularsInRange p
@@ -63,7 +64,7 @@ module _ (table : List ℕ) (p : Particulars) (room : ℕ) {particular : ℕ} (f
         unfolding rowsOf
         bad-half-breadth d = simp (← first, ← second, le-ltb _ _ a, eq-eqb _ _ b, le-ltb _ _ c, lt-ltb _ _ d, chosen)
 
-        pub rows-follow : length table ≤ place → rowsOf table p room ≡ rowsUpTo table p (rowsOver (p .m))
+        pub rows-follow : length table ≤ place → rowsOf table p room ≡ rowsUpTo (rowOf table p) (rowsOver (p .m))
         unfolding rowsOf
         rows-follow d = simp (← first, ← second, le-ltb _ _ a, eq-eqb _ _ b, le-ltb _ _ c, le-ltb _ _ d, chosen)
 
@@ -73,5 +74,5 @@ module _ {table : List ℕ} {p : Particulars} {rows : List ℕ} {answer : Rows} 
   unfolding answerWith leftWith
   refuses e f = record { answer-is = rw e f; left = rw e }
 
-  pub makes : {after : List ℕ} → rowsOf table p (length rows) ≡ rowsUpTo table p (rowsOver (p .m)) → FillsRows table p rows after answer → MakesRows table p rows after answer
+  pub makes : {after : List ℕ} → rowsOf table p (length rows) ≡ rowsUpTo (rowOf table p) (rowsOver (p .m)) → FillsRows (rowOf table p) (rowsOver (p .m)) rows after answer → MakesRows table p rows after answer
   makes e f = record { answer-is = rw e (f .answer-is); left = rw e (f .left) }

@@ -1,6 +1,7 @@
--- The sums of a row by waterplanes: what is summed station by station in the definitions is summed waterline by waterline.
---     Q-is, X-is, C-is             the sums over a waterline are curves over its stations
---     S-is, Sz-is, Sx-is           the sums of a row are curves over its waterlines, through Q, Q·j and X
+-- The sums of a row as curves, by stations and by waterlines.
+--     Q-is, X-is, C-is                     the sums over a waterline are curves over its stations
+--     S-along, Sz-along, Sx-along          the sums of a row are curves over its stations, through their areas and height moments
+--     S-is, Sz-is, Sx-is                   and curves over its waterlines, through Q, Q·j and X
 -- Assumes nothing.
 use mathlib.Core.Path.{_≡_, refl, sym, ap, _∙_}
 use mathlib.Core.List.{List}
@@ -14,15 +15,19 @@ use Rattle.simpson.specs.Multipliers.{multiplier}
 use Rattle.simpson.specs.Curve.{curve}
 use Rattle.simpson.proofs.Curves.{curve-same, curve-times, curve-swap}
 use Rattle.hydrostatics.specs.Hull.{halfBreadth, term, S, Sz, Sx, Q, C}
+use Rattle.hydrostatics.specs.Private.Sections.{areaAt, momentAt}
 use Rattle.hydrostatics.specs.Private.Waterplanes.{X}
 
--- a double sum with both multipliers, waterline by waterline
-by-waterlines : (n k : ℕ) (g : ℕ → ℕ → ℕ) → sumTo (n + 1) (λ i. sumTo (k + 1) (λ j. multiplier n i * multiplier k j * g i j)) ≡ curve k (λ j. curve n (λ i. g i j))
+-- a double sum with both multipliers, station by station
+by-stations : (n k : ℕ) (g : ℕ → ℕ → ℕ) → sumTo (n + 1) (λ i. sumTo (k + 1) (λ j. multiplier n i * multiplier k j * g i j)) ≡ curve n (λ i. curve k (λ j. g i j))
 unfolding curve
-by-waterlines n k g =
+by-stations n k g =
     sum-same natural (n + 1) _ (λ i. multiplier n i * sumTo (k + 1) (λ j. multiplier k j * g i j))
     (λ i l. sum-same natural (k + 1) _ _ (λ j l. mul-assoc (multiplier n i) (multiplier k j) (g i j)) ∙ times-sum natural (k + 1) (multiplier n i) (λ j. multiplier k j * g i j))
-    ∙ curve-swap n k g
+
+-- a factor of each ordinate that does not depend on it
+curve-by : (n : ℕ) (y : ℕ → ℕ) (a : ℕ) → curve n (λ i. y i * a) ≡ curve n y * a
+curve-by n y a = curve-same n _ (λ i. a * y i) (λ i l. mul-comm (y i) a) ∙ curve-times n a y ∙ mul-comm a (curve n y)
 
 module _ (table : List ℕ) (p : Particulars) where
   pub Q-is : (j : ℕ) → Q table p j ≡ curve (p .n) (λ i. halfBreadth table p i j)
@@ -38,26 +43,38 @@ module _ (table : List ℕ) (p : Particulars) where
   C-is j = refl
 
   module _ (k : ℕ) where
-    pub S-is : S table p k ≡ curve k (Q table p)
-    unfolding S term Q curve
-    S-is = by-waterlines (p .n) k (halfBreadth table p)
-
     -- each term times f of its station and waterline
-    timed : (f : ℕ → ℕ → ℕ) → sumTo (p .n + 1) (λ i. sumTo (k + 1) (λ j. term table p k i j * f i j)) ≡ curve k (λ j. curve (p .n) (λ i. halfBreadth table p i j * f i j))
+    timed : (f : ℕ → ℕ → ℕ) → sumTo (p .n + 1) (λ i. sumTo (k + 1) (λ j. term table p k i j * f i j)) ≡ curve (p .n) (λ i. curve k (λ j. halfBreadth table p i j * f i j))
     unfolding term
     timed f =
         sum-same natural (p .n + 1) _ _ (λ i l. sum-same natural (k + 1) _ _ (λ j l. mul-assoc (multiplier (p .n) i * multiplier k j) (halfBreadth table p i j) (f i j)))
-        ∙ by-waterlines (p .n) k (λ i j. halfBreadth table p i j * f i j)
+        ∙ by-stations (p .n) k (λ i j. halfBreadth table p i j * f i j)
+
+    -- ---- along the stations
+    pub S-along : S table p k ≡ curve (p .n) (areaAt table p k)
+    unfolding S term areaAt
+    S-along = by-stations (p .n) k (halfBreadth table p)
+
+    pub Sz-along : Sz table p k ≡ curve (p .n) (momentAt table p k)
+    unfolding Sz momentAt
+    Sz-along = timed (λ i j. j)
+
+    pub Sx-along : Sx table p k ≡ curve (p .n) (λ i. areaAt table p k i * i)
+    unfolding Sx areaAt
+    Sx-along = timed (λ i j. i) ∙ curve-same (p .n) _ _ (λ i l. curve-by k (λ j. halfBreadth table p i j) i)
+
+    -- ---- up the waterlines
+    pub S-is : S table p k ≡ curve k (Q table p)
+    unfolding areaAt
+    S-is = S-along ∙ curve-swap (p .n) k (halfBreadth table p) ∙ curve-same k _ _ (λ j l. sym (Q-is j))
 
     pub Sz-is : Sz table p k ≡ curve k (λ j. Q table p j * j)
-    unfolding Sz
+    unfolding momentAt
     Sz-is =
-        timed (λ i j. j)
-        ∙ curve-same k _ _ (λ j l. curve-same (p .n) _ (λ i. j * halfBreadth table p i j) (λ i l. mul-comm (halfBreadth table p i j) j)
-        ∙ curve-times (p .n) j (λ i. halfBreadth table p i j)
-        ∙ mul-comm j (curve (p .n) (λ i. halfBreadth table p i j))
-        ∙ ap (λ q. q * j) (sym (Q-is j)))
+        Sz-along
+        ∙ curve-swap (p .n) k (λ i j. halfBreadth table p i j * j)
+        ∙ curve-same k _ _ (λ j l. curve-by (p .n) (λ i. halfBreadth table p i j) j ∙ ap (λ q. q * j) (sym (Q-is j)))
 
     pub Sx-is : Sx table p k ≡ curve k (X table p)
     unfolding Sx X
-    Sx-is = timed (λ i j. i)
+    Sx-is = timed (λ i j. i) ∙ curve-swap (p .n) k (λ i j. halfBreadth table p i j * i)

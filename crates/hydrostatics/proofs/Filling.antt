@@ -10,7 +10,7 @@ use native.Mathlib.Omega.{arith}
 use borrow.Author.Count.{below-none, below-more}
 use lib.ListN.{length, getD, set, length-set}
 use lib.Seq.{getD-set-same, getD-set-other}
-use Rattle.hydrostatics.specs.Private.Waterplanes.{Filled}
+use Rattle.hydrostatics.specs.Private.Hull.{Filled}
 
 pub record Filling {A : Type 0} (none : A) (f : ℕ → A) (room i : ℕ) (l : List A) : Type 0 where
   pub long : length l ≡ room

@@ -8,6 +8,9 @@ pub mod Formulas
 pub mod Writing
 pub mod Passing
 pub mod Passed
+pub mod Plain
+pub mod Stations
+pub mod SumsMade
 pub mod Answers
 pub mod InRows
 pub mod Metacentre

@@ -3,9 +3,10 @@
 --     half-breadth-le            no half-breadth is above the greatest
 --     powers-le                  nor its square and cube above theirs
 --     Q-le, C-le                 a waterline's sums, by the area of the rectangle around it
+--     area-most, moment-most     a station's, up to a waterline
 --     X-le                       at most the last station's number times Q
 --     S-le, Sz-le, Sx-le         a row's sums: by the box around the hull, and by the last waterline's and station's number
---     Q-most, X-most, C-most, S-most        the same as numbers
+--     Q-most, X-most, C-most, S-most, Sz-most, Sx-most      the same as numbers
 -- Assumes nothing.
 use mathlib.Core.List.{List}
 use Prim.Native.Nat.{ℕ, _+_, _*_, _^_, _≤_, _<_}
@@ -18,7 +19,10 @@ use Rattle.simpson.specs.Curve.{curve}
 use Rattle.simpson.proofs.Curves.{curve-times, curve-mono}
 use Rattle.simpson.proofs.Moments.{curve-le}
 use Rattle.hydrostatics.specs.Hull.{halfBreadth, S, Sz, Sx, Q, C}
-use Rattle.hydrostatics.specs.Private.Waterplanes.{X, InRange, mostQ, mostX, mostC, mostS}
+use Rattle.hydrostatics.specs.Private.Hull.{InRange}
+use Rattle.hydrostatics.specs.Private.Sections.{areaAt, momentAt, mostArea}
+use Rattle.hydrostatics.specs.Private.Sums.{mostQ, mostC, mostS, mostSz, mostSx}
+use Rattle.hydrostatics.specs.Private.Waterplanes.{X, mostX}
 use Rattle.hydrostatics.proofs.Exchange.{Q-is, C-is, S-is, Sz-is, Sx-is}
 
 -- ordinates times their places, of which none is beyond the last
@@ -67,6 +71,18 @@ module _ {table : List ℕ} {p : Particulars} (hull : InRange table p) where
   pub S-le : (k : ℕ) → S table p k ≤ most (rangeOf 5) * (24 * p .n) * (24 * k)
   S-le k = rw (S-is table p k) (curve-le k (most (rangeOf 5) * (24 * p .n)) (Q table p) (λ j l. Q-le j))
 
+  -- of station i up to waterline k
+  module _ (i : ℕ) {k : ℕ} (h : k ≤ p .m) where
+    pub area-most : areaAt table p k i ≤ mostArea
+    unfolding areaAt
+    area-most = omega (arith, curve-le k (most (rangeOf 5)) (λ j. halfBreadth table p i j) (λ j l. half-breadth-le i j), hull .particulars .m-most)
+
+    pub moment-most : momentAt table p k i ≤ most (rangeOf 1) * mostArea
+    unfolding momentAt areaAt
+    moment-most =
+        let waterlines : k ≤ most (rangeOf 1) = omega (arith, hull .particulars .m-most) in
+        omega (arith, moment-le k (λ j. halfBreadth table p i j), mul-le-mul waterlines area-most)
+
   -- as numbers
   stations : p .n ≤ most (rangeOf 0)
   stations = hull .particulars .n-most
@@ -85,3 +101,9 @@ module _ {table : List ℕ} {p : Particulars} (hull : InRange table p) where
       let waterlines : 24 * k ≤ 24 * most (rangeOf 1) = omega arith in
       let largest : most (rangeOf 5) * (24 * p .n) ≤ mostQ = omega (arith, stations) in
       omega (arith, S-le k, mul-le-mul largest waterlines)
+
+  pub Sz-most : (k : ℕ) → k ≤ most (rangeOf 1) → Sz table p k ≤ mostSz
+  Sz-most k h = omega (arith, Sz-le table p k, mul-le-mul h (S-most k h))
+
+  pub Sx-most : (k : ℕ) → k ≤ most (rangeOf 1) → Sx table p k ≤ mostSx
+  Sx-most k h = omega (arith, Sx-le table p k, mul-le-mul stations (S-most k h))

@@ -12,7 +12,7 @@ use Rattle.ranges.specs.declared.Particulars.{Particulars}
 use Rattle.ranges.specs.Outcome.{leftWith}
 use Rattle.hydrostatics.specs.Promise.{tableAfter, MakesRows}
 use Rattle.hydrostatics.specs.Hull.{Q}
-use Rattle.hydrostatics.specs.Row.{rowAt, rowOf, waterlineOf}
+use Rattle.hydrostatics.specs.Row.{rowFrom, rowOf, waterlineOf}
 use Rattle.hydrostatics.specs.Rows.{rowsOf}
 use Rattle.hydrostatics.specs.Usable.{rowIn}
 use Rattle.hydrostatics.specs.declared.Rows.the-variants.{Made}
@@ -34,7 +34,7 @@ made-rows {table} {p} {rows} {after} {count} made =
     ))
 
 pub made-area : {table : List ℕ} {p : Particulars} {rows after : List ℕ} {count : ℕ} → MakesRows table p rows after (Made count) → (r : ℕ) → r < count → (2 ≤ p .n) × (rowIn after r .area ≡ p .s * Q table p (waterlineOf r) / 12)
-unfolding rowAt
+unfolding rowFrom
 made-area {table} {p} {rows} made r h =
     counted (rowsOf table p (length rows)) (made .answer-is) (λ numbers so e. (
       answered-rows (length rows) so .hull .particulars .n-least,

@@ -13,7 +13,7 @@ use Rattle.arithmetic.proofs.Ring.{pow2}
 use Rattle.arithmetic.proofs.Rounding.{down-of}
 use Rattle.ranges.specs.declared.Particulars.{Particulars}
 use Rattle.hydrostatics.specs.Hull.{S, Sz, C}
-use Rattle.hydrostatics.specs.Row.{rowAt}
+use Rattle.hydrostatics.specs.Row.{rowFrom, rowAt}
 
 pub quotients-fit : (a c b : ℕ) → (a / b + c / b ≡ (a + c) / b) ⊎ (a / b + c / b + 1 ≡ (a + c) / b)
 quotients-fit a c zero = inl (rw (div-zero a, div-zero c, div-zero (a + c)))
@@ -35,7 +35,7 @@ cancelled (suc d) z s =
 
 module _ (table : List ℕ) (p : Particulars) (k : ℕ) where
   pub metacentre-fits : (rowAt table p k .kb + rowAt table p k .bm ≡ rowAt table p k .km) ⊎ (rowAt table p k .kb + rowAt table p k .bm + 1 ≡ rowAt table p k .km)
-  unfolding rowAt
+  unfolding rowFrom
   metacentre-fits =
       rw (cancelled (p .d) (Sz table p k) (S table p k)) (quotients-fit (p .d ^ 2 * Sz table p k) (8 * C table p k) (p .d * S table p k))
 

@@ -1,5 +1,5 @@
 -- What rows, display and a table's use refuse has one of the paper's numbers.
---     up-to-numbered, rows-numbered     the rows of a hull
+--     up-to-numbered, rows-numbered     any rows, and those of a hull
 --     display-numbered                  the display of a row
 --     usable-numbered                   the use of a table of rows
 -- Assumes nothing.
@@ -10,19 +10,19 @@ use Rattle.ranges.specs.Sizes.{rowsOver}
 use Rattle.ranges.specs.declared.Particulars.{Particulars}
 use Rattle.ranges.proofs.Numbered.{numbered, then-numbered}
 use Rattle.hydrostatics.specs.Display.{displayOf}
+use Rattle.hydrostatics.specs.Row.{rowOf}
 use Rattle.hydrostatics.specs.Rows.{rowsUpTo, rowsOf}
 use Rattle.hydrostatics.specs.Usable.{usableUpTo}
 use Rattle.hydrostatics.specs.declared.Row.{Row}
 
-module _ (table : List ℕ) (p : Particulars) where
-  pub up-to-numbered : (count : ℕ) → Numbered (rowsUpTo table p count)
-  unfolding rowsUpTo
-  up-to-numbered zero = search numbered
-  up-to-numbered (suc r) = then-numbered (up-to-numbered r) (λ before. search numbered)
+pub up-to-numbered : (row : ℕ → Row) (count : ℕ) → Numbered (rowsUpTo row count)
+unfolding rowsUpTo
+up-to-numbered row zero = search numbered
+up-to-numbered row (suc r) = then-numbered (up-to-numbered row r) (λ before. search numbered)
 
-  pub rows-numbered : (room : ℕ) → Numbered (rowsOf table p room)
-  unfolding rowsOf
-  rows-numbered room = let rest = up-to-numbered (rowsOver (p .m)) in search numbered depth 8
+pub rows-numbered : (table : List ℕ) (p : Particulars) (room : ℕ) → Numbered (rowsOf table p room)
+unfolding rowsOf
+rows-numbered table p room = let rest = up-to-numbered (rowOf table p) (rowsOver (p .m)) in search numbered depth 8
 
 pub display-numbered : (row : Row) → Numbered (displayOf row)
 unfolding displayOf

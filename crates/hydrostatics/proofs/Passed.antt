@@ -17,12 +17,12 @@ use Rattle.arithmetic.specs.Choice.{if_then_else_}
 use Rattle.ranges.specs.Fields.{highestMetacentre}
 use Rattle.ranges.specs.Outcome.{Outcome, answered, refused, leftWith}
 use Rattle.ranges.specs.Refusals.{displacementNotRising, metacentreTooHigh}
-use Rattle.ranges.specs.Sizes.{rowWidth, rowsOver}
-use Rattle.ranges.specs.declared.Particulars.{Particulars}
+use Rattle.ranges.specs.Sizes.{rowWidth}
 use Rattle.hydrostatics.specs.Promise.{paper, countOf, rowCount}
-use Rattle.hydrostatics.specs.Row.{rowOf, numbersOf}
+use Rattle.hydrostatics.specs.Row.{numbersOf}
 use Rattle.hydrostatics.specs.Rows.{displacementBefore, rowsUpTo}
 use Rattle.hydrostatics.specs.Private.Table.{noRow, numbersUpTo, TriedRows, FillsRows}
+use Rattle.hydrostatics.specs.declared.Row.{Row}
 use Rattle.hydrostatics.specs.declared.Rows.the-variants.{Made, Refused}
 use Rattle.hydrostatics.specs.declared.table.Tried.{Tried}
 use Rattle.ranges.specs.declared.Refusal.{Refusal}
@@ -32,28 +32,27 @@ use Rattle.hydrostatics.proofs.Writing.{numbers-length, numbers-same}
 below-suc : {P : ℕ → Type 0} (r : ℕ) → ((i : ℕ) → i < r → P i) → P r → (i : ℕ) → i < suc r → P i
 below-suc {P} r all here = rw add-one at (below-more P r all here)
 
-pub record Passed (table : List ℕ) (p : Particulars) (count : ℕ) (numbers : List ℕ) : Type 0 where
-  pub numbers-are : numbers ≡ numbersUpTo (rowOf table p) count
-  pub rises : (r : ℕ) → r < count → displacementBefore table p r < rowOf table p r .displacement
-  pub under : (r : ℕ) → r < count → rowOf table p r .km ≤ highestMetacentre
+pub record Passed (row : ℕ → Row) (count : ℕ) (numbers : List ℕ) : Type 0 where
+  pub numbers-are : numbers ≡ numbersUpTo row count
+  pub rises : (r : ℕ) → r < count → displacementBefore row r < row r .displacement
+  pub under : (r : ℕ) → r < count → row r .km ≤ highestMetacentre
 
-module _ {table : List ℕ} {p : Particulars} where
+module _ {row : ℕ → Row} where
   -- one row more
-  passed-more : (r : ℕ) {before numbers : List ℕ} → Passed table p r before → (if leb (rowOf table p r .displacement) (displacementBefore table p r) then refused displacementNotRising r
-      else if ltb highestMetacentre (rowOf table p r .km) then refused metacentreTooHigh r
-      else answered (before ++ numbersOf (rowOf table p r))) ≡ answered numbers → Passed table p (suc r) numbers
+  passed-more : (r : ℕ) {before numbers : List ℕ} → Passed row r before → (if leb (row r .displacement) (displacementBefore row r) then refused displacementNotRising r
+      else if ltb highestMetacentre (row r .km) then refused metacentreTooHigh r
+      else answered (before ++ numbersOf (row r))) ≡ answered numbers → Passed row (suc r) numbers
   unfolding numbersUpTo
   passed-more r {before} so e =
-      let row = rowOf table p r in
       let rising = not-refused displacementNotRising r e in
       let low = not-refused metacentreTooHigh r (rising .1) in
       record {
-        numbers-are = cc (low .1) ∙ ap (λ l. l ++ numbersOf row) (so .numbers-are);
-        rises = below-suc r (so .rises) (leb-false (row .displacement) (displacementBefore table p r) (rising .0));
-        under = below-suc r (so .under) (ltb-false highestMetacentre (row .km) (low .0));
+        numbers-are = cc (low .1) ∙ ap (λ l. l ++ numbersOf (row r)) (so .numbers-are);
+        rises = below-suc r (so .rises) (leb-false (row r .displacement) (displacementBefore row r) (rising .0));
+        under = below-suc r (so .under) (ltb-false highestMetacentre (row r .km) (low .0));
       }
 
-  pub passed : (count : ℕ) {numbers : List ℕ} → rowsUpTo table p count ≡ answered numbers → Passed table p count numbers
+  pub passed : (count : ℕ) {numbers : List ℕ} → rowsUpTo row count ≡ answered numbers → Passed row count numbers
   unfolding rowsUpTo numbersUpTo
   passed zero e = record { numbers-are = cc; rises = below-none _; under = below-none _ }
   passed (suc r) e = let before = answered-then e in passed-more r (passed r (before .1)) (before .2)
@@ -63,29 +62,29 @@ module _ {table : List ℕ} {p : Particulars} where
 pub counted : {X : Type 0} (o : Outcome (List ℕ)) {count : ℕ} → answered count ≡ countOf o → ((numbers : List ℕ) → o ≡ answered numbers → count ≡ length numbers / rowWidth → X) → X
 counted o e on = let x = with-answered rowCount o (sym e) in on (x .0) (x .1) (x .2)
 
-module _ {table : List ℕ} {p : Particulars} {tried : Tried} (so : TriedRows table p tried) where
-  module _ {count : ℕ} (made : tried .answer ≡ Made count) where
-    all : (count ≡ rowsOver (p .m)) × (rowsUpTo table p (rowsOver (p .m)) ≡ answered (numbersUpTo (rowOf table p) (rowsOver (p .m))))
+module _ {row : ℕ → Row} {count : ℕ} {tried : Tried} (so : TriedRows row count tried) where
+  module _ {made : ℕ} (is : tried .answer ≡ Made made) where
+    all : (made ≡ count) × (rowsUpTo row count ≡ answered (numbersUpTo row count))
     all =
-        counted (rowsUpTo table p (rowsOver (p .m))) (sym (ap paper made) ∙ so .answer-is) (λ numbers o e.
-        let numbers-are = passed (rowsOver (p .m)) o .numbers-are in (
-          omega (arith, ap length numbers-are, numbers-length (rowOf table p) (rowsOver (p .m))),
+        counted (rowsUpTo row count) (sym (ap paper is) ∙ so .answer-is) (λ numbers o e.
+        let numbers-are = passed count o .numbers-are in (
+          omega (arith, ap length numbers-are, numbers-length row count),
           o ∙ ap answered numbers-are,
         ))
 
-    pub made-count : count ≡ rowsOver (p .m)
+    pub made-count : made ≡ count
     made-count = all .0
 
-    pub made-left : {was after : List ℕ} → after ≡ numbersUpTo (λ r. getD (tried .rows) r noRow) count ++ drop (rowWidth * count) was → FillsRows table p was after (Made count)
+    pub made-left : {was after : List ℕ} → after ≡ numbersUpTo (λ r. getD (tried .rows) r noRow) made ++ drop (rowWidth * made) was → FillsRows row count was after (Made made)
     unfolding leftWith
     made-left {was} e = record {
-      answer-is = sym (ap paper made) ∙ so .answer-is;
+      answer-is = sym (ap paper is) ∙ so .answer-is;
       left =
-          let kept = numbers-same (λ r. getD (tried .rows) r noRow) (rowOf table p) count (so .rows-are count made .at) in
-          rw (all .1, numbers-length (rowOf table p) (rowsOver (p .m)), ← made-count) (e ∙ ap (λ l. l ++ drop (rowWidth * count) was) kept);
+          let kept = numbers-same (λ r. getD (tried .rows) r noRow) row made (so .rows-are made is .at) in
+          rw (all .1, numbers-length row count, ← made-count) (e ∙ ap (λ l. l ++ drop (rowWidth * made) was) kept);
     }
 
-  pub refused-left : {r : Refusal} {was : List ℕ} → tried .answer ≡ Refused r → FillsRows table p was was (tried .answer)
+  pub refused-left : {r : Refusal} {was : List ℕ} → tried .answer ≡ Refused r → FillsRows row count was was (tried .answer)
   refused-left {was = was} e =
-      let rows = rowsUpTo table p (rowsOver (p .m)) in
+      let rows = rowsUpTo row count in
       record { answer-is = so .answer-is; left = sym (left-refused (λ numbers. numbers) rows was (with-refused rowCount rows (sym (so .answer-is) ∙ ap paper e))) }

@@ -18,11 +18,10 @@ use Rattle.arithmetic.proofs.Choice.{chosen}
 use Rattle.ranges.specs.Fields.{highestMetacentre}
 use Rattle.ranges.specs.Outcome.{answered, refused, andThen, answerWith}
 use Rattle.ranges.specs.Refusals.{displacementNotRising, metacentreTooHigh}
-use Rattle.ranges.specs.Sizes.{rowWidth, rowsOver, mostRows}
-use Rattle.ranges.specs.declared.Particulars.{Particulars}
+use Rattle.ranges.specs.Sizes.{rowWidth, mostRows}
 use Rattle.ranges.proofs.Outcomes.{refused-not}
 use Rattle.hydrostatics.specs.Promise.{paper}
-use Rattle.hydrostatics.specs.Row.{rowOf, numbersOf}
+use Rattle.hydrostatics.specs.Row.{numbersOf}
 use Rattle.hydrostatics.specs.Rows.{displacementBefore, rowsUpTo}
 use Rattle.hydrostatics.specs.Private.Table.{noRow, numbersUpTo, TriedRows}
 use Rattle.hydrostatics.specs.declared.Row.{Row}
@@ -31,59 +30,57 @@ use Rattle.hydrostatics.specs.declared.Rows.the-variants.{Made}
 use Rattle.hydrostatics.proofs.Filling.{Filling, filling-none, filling-more, filling-all}
 use Rattle.hydrostatics.proofs.Writing.{numbers-more, numbers-length}
 
-pub record Passing (table : List ℕ) (p : Particulars) (r before : ℕ) (rows : List Row) : Type 0 where
-  pub answers : rowsUpTo table p r ≡ answered (numbersUpTo (rowOf table p) r)
-  pub before-is : before ≡ displacementBefore table p r
-  pub kept : Filling noRow (rowOf table p) mostRows r rows
+pub record Passing (row : ℕ → Row) (r before : ℕ) (rows : List Row) : Type 0 where
+  pub answers : rowsUpTo row r ≡ answered (numbersUpTo row r)
+  pub before-is : before ≡ displacementBefore row r
+  pub kept : Filling noRow row mostRows r rows
 
-module _ (table : List ℕ) (p : Particulars) where
-  -- a refusal is passed on by every row after it
-  stays : (number place r : ℕ) → rowsUpTo table p r ≡ refused number place → (c : ℕ) → r ≤ c → rowsUpTo table p c ≡ refused number place
-  unfolding rowsUpTo andThen
-  stays number place r e c h = le-ind (λ c. rowsUpTo table p c ≡ refused number place) e (λ c _ so. rw so) c h
+-- a refusal is passed on by every row after it
+stays : (row : ℕ → Row) (number place r : ℕ) → rowsUpTo row r ≡ refused number place → (c : ℕ) → r ≤ c → rowsUpTo row c ≡ refused number place
+unfolding rowsUpTo andThen
+stays row number place r e c h = le-ind (λ c. rowsUpTo row c ≡ refused number place) e (λ c _ so. rw so) c h
 
-module _ {table : List ℕ} {p : Particulars} where
-  pub passing-none : {rows : List Row} → length rows ≡ mostRows → Passing table p 0 0 rows
+module _ {row : ℕ → Row} where
+  pub passing-none : {rows : List Row} → length rows ≡ mostRows → Passing row 0 0 rows
   unfolding rowsUpTo displacementBefore numbersUpTo
   passing-none e = record { answers = refl; before-is = refl; kept = filling-none e }
 
-  module _ {r before : ℕ} {rows : List Row} (so : Passing table p r before rows) {row : Row} (is : row ≡ rowOf table p r) where
-    tried : rowsUpTo table p (suc r) ≡ (if leb (row .displacement) before then refused displacementNotRising r
-        else if ltb highestMetacentre (row .km) then refused metacentreTooHigh r
-        else answered (numbersUpTo (rowOf table p) r ++ numbersOf row))
+  module _ {r before : ℕ} {rows : List Row} (so : Passing row r before rows) {made : Row} (is : made ≡ row r) where
+    tried : rowsUpTo row (suc r) ≡ (if leb (made .displacement) before then refused displacementNotRising r
+        else if ltb highestMetacentre (made .km) then refused metacentreTooHigh r
+        else answered (numbersUpTo row r ++ numbersOf made))
     unfolding rowsUpTo andThen
     tried = rw (so .answers, so .before-is, is)
 
-    pub too-low : row .displacement ≤ before → (c : ℕ) → r < c → rowsUpTo table p c ≡ refused displacementNotRising r
-    too-low t = stays table p displacementNotRising r (suc r) (tried ∙ simp (le-leb _ _ t, chosen))
+    pub too-low : made .displacement ≤ before → (c : ℕ) → r < c → rowsUpTo row c ≡ refused displacementNotRising r
+    too-low t = stays row displacementNotRising r (suc r) (tried ∙ simp (le-leb _ _ t, chosen))
 
-    pub too-high : before < row .displacement → highestMetacentre < row .km → (c : ℕ) → r < c → rowsUpTo table p c ≡ refused metacentreTooHigh r
-    too-high t u = stays table p metacentreTooHigh r (suc r) (tried ∙ simp (lt-leb _ _ t, lt-ltb _ _ u, chosen))
+    pub too-high : before < made .displacement → highestMetacentre < made .km → (c : ℕ) → r < c → rowsUpTo row c ≡ refused metacentreTooHigh r
+    too-high t u = stays row metacentreTooHigh r (suc r) (tried ∙ simp (lt-leb _ _ t, lt-ltb _ _ u, chosen))
 
-    pub passing-more : before < row .displacement → row .km ≤ highestMetacentre → r < mostRows → Passing table p (r + 1) (row .displacement) (set rows r row)
+    pub passing-more : before < made .displacement → made .km ≤ highestMetacentre → r < mostRows → Passing row (r + 1) (made .displacement) (set rows r made)
     unfolding displacementBefore
     passing-more t u h = record {
-      answers = rw (numbers-more (rowOf table p) r, add-one, ← is) (tried ∙ simp (lt-leb _ _ t, le-ltb _ _ u, chosen));
+      answers = rw (numbers-more row r, add-one, ← is) (tried ∙ simp (lt-leb _ _ t, le-ltb _ _ u, chosen));
       before-is = rw (add-one, is);
       kept = filling-more (so .kept) h is;
     }
 
 -- ---- what is answered
-module _ {table : List ℕ} {p : Particulars} {rows : List Row} where
-  pub refusal : {number place : ℕ} {answer : Rows} → rowsUpTo table p (rowsOver (p .m)) ≡ refused number place → paper answer ≡ refused number place → TriedRows table p (record { rows = rows; answer = answer })
+module _ {row : ℕ → Row} {count : ℕ} {rows : List Row} where
+  pub refusal : {number place : ℕ} {answer : Rows} → rowsUpTo row count ≡ refused number place → paper answer ≡ refused number place → TriedRows row count (record { rows = rows; answer = answer })
   unfolding answerWith
   refusal e f = record {
     answer-is = rw e f;
-    rows-are = λ count g. refused-not (sym f ∙ ap paper g);
+    rows-are = λ made g. refused-not (sym f ∙ ap paper g);
   }
 
-  pub passing-all : {r before : ℕ} → Passing table p r before rows → r ≡ rowsOver (p .m) → TriedRows table p (record { rows = rows; answer = Made (rowsOver (p .m)) })
+  pub passing-all : {r before : ℕ} → Passing row r before rows → r ≡ count → TriedRows row count (record { rows = rows; answer = Made count })
   unfolding answerWith
   passing-all {r} so e =
-      let count = rowsOver (p .m) in
       let each : rowWidth * count / rowWidth ≡ count = omega arith in
-      let answers = subst (λ r. rowsUpTo table p r ≡ answered (numbersUpTo (rowOf table p) r)) e (so .answers) in
+      let answers = subst (λ r. rowsUpTo row r ≡ answered (numbersUpTo row r)) e (so .answers) in
       record {
-        answer-is = rw (answers, numbers-length (rowOf table p) count, each);
+        answer-is = rw (answers, numbers-length row count, each);
         rows-are = λ n f. filling-all (so .kept) (e ∙ cc);
       }

@@ -13,8 +13,8 @@ use Rattle.ranges.specs.Fields.{rangeOf, most, highestMetacentre}
 use Rattle.ranges.specs.Private.InRange.{rowRange}
 use Rattle.ranges.specs.declared.Particulars.{Particulars}
 use Rattle.hydrostatics.specs.Hull.{S, Sz, Sx}
-use Rattle.hydrostatics.specs.Row.{waterlineOf, rowAt}
-use Rattle.hydrostatics.specs.Private.Waterplanes.{InRange}
+use Rattle.hydrostatics.specs.Row.{waterlineOf, rowFrom, rowAt}
+use Rattle.hydrostatics.specs.Private.Hull.{InRange}
 use Rattle.hydrostatics.proofs.InRows.{Between, RowInRange}
 use Rattle.hydrostatics.proofs.Limits.{Q-most, S-most, Sz-le, Sx-le}
 use Rattle.hydrostatics.proofs.Metacentre.{bm-le-km}
@@ -33,24 +33,24 @@ module _ {table : List ℕ} {p : Particulars} (hull : InRange table p) where
 
   module _ {k : ℕ} (low : waterlineOf 0 ≤ k) (high : k ≤ most (rangeOf 1)) where
     pub draft-between : Between (rowRange 0) (rowAt table p k .draft)
-    unfolding rowAt
+    unfolding rowFrom
     draft-between = (omega (arith, mul-le-mul (hull .particulars .d-least) low), omega (arith, mul-le-mul d-most high))
 
     pub displacement-le : rowAt table p k .displacement ≤ most (rowRange 1)
-    unfolding rowAt
+    unfolding rowFrom
     displacement-le =
         div-le-of-le-mul _ (omega (arith, mul-le-mul (mul-le-mul (mul-le-mul s-most d-most) (S-most hull k high)) (hull .particulars .density-most)))
 
     pub lcb-le : rowAt table p k .lcb ≤ most (rowRange 2)
-    unfolding rowAt
+    unfolding rowFrom
     lcb-le = le-trans (mean-le (p .s) (Sx table p k) (S table p k) (p .n) (Sx-le table p k)) (omega (arith, mul-le-mul s-most (hull .particulars .n-most)))
 
     pub kb-le : rowAt table p k .kb ≤ most (rowRange 3)
-    unfolding rowAt
+    unfolding rowFrom
     kb-le = le-trans (mean-le (p .d) (Sz table p k) (S table p k) k (Sz-le table p k)) (omega (arith, mul-le-mul d-most high))
 
     pub area-le : rowAt table p k .area ≤ most (rowRange 6)
-    unfolding rowAt
+    unfolding rowFrom
     area-le = div-le-of-le-mul _ (omega (arith, mul-le-mul s-most (Q-most hull k)))
 
     pub row-ranged : 0 < rowAt table p k .displacement → rowAt table p k .km ≤ highestMetacentre → RowInRange (rowAt table p k)

@@ -21,7 +21,9 @@ use Rattle.simpson.specs.Multipliers.{multiplier}
 use Rattle.simpson.specs.Curve.{curve}
 use Rattle.simpson.proofs.Moments.{curve-le}
 use Rattle.hydrostatics.specs.Hull.{halfBreadth}
-use Rattle.hydrostatics.specs.Private.Waterplanes.{InRange, mostQ, mostX, mostC, mostS, mostSz, mostSx, Small}
+use Rattle.hydrostatics.specs.Private.Hull.{InRange}
+use Rattle.hydrostatics.specs.Private.Sums.{mostQ, mostC, mostS, mostSz, mostSx}
+use Rattle.hydrostatics.specs.Private.Waterplanes.{mostX, Small}
 use Rattle.hydrostatics.proofs.Exchange.{Q-is, X-is, C-is}
 use Rattle.hydrostatics.proofs.Limits.{Q-most, X-most, C-most}
 

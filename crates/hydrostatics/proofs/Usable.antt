@@ -24,10 +24,10 @@ use Rattle.ranges.specs.declared.Particulars.{Particulars}
 use Rattle.ranges.proofs.Facts.{whole-within}
 use Rattle.ranges.proofs.Outcomes.{not-refused}
 use Rattle.hydrostatics.specs.Promise.{tableAfter, MakesRows}
-use Rattle.hydrostatics.specs.Row.{waterlineOf, rowAt, rowOf}
+use Rattle.hydrostatics.specs.Row.{waterlineOf, rowFrom, rowOf}
 use Rattle.hydrostatics.specs.Rows.{displacementBefore, rowsOf}
 use Rattle.hydrostatics.specs.Usable.{inRange, spaced, rises, metacentreFits, usableRow, usableUpTo}
-use Rattle.hydrostatics.specs.Private.Waterplanes.{InRange}
+use Rattle.hydrostatics.specs.Private.Hull.{InRange}
 use Rattle.hydrostatics.specs.declared.Rows.the-variants.{Made}
 use Rattle.hydrostatics.proofs.Answers.{particulars-told, hull-told}
 use Rattle.hydrostatics.proofs.InRows.{none-outside}
@@ -40,7 +40,7 @@ use Rattle.hydrostatics.proofs.Writing.{numbers-length}
 -- ---- what an answer tells
 pub record Answered (table : List ℕ) (p : Particulars) (numbers : List ℕ) : Type 0 where
   pub hull : InRange table p
-  pub rows : Passed table p (rowsOver (p .m)) numbers
+  pub rows : Passed (rowOf table p) (rowsOver (p .m)) numbers
 
 pub answered-rows : {table : List ℕ} {p : Particulars} {numbers : List ℕ} (room : ℕ) → rowsOf table p room ≡ answered numbers → Answered table p numbers
 unfolding rowsOf
@@ -77,7 +77,7 @@ module _ {table : List ℕ} {p : Particulars} {numbers : List ℕ} (so : Answere
         rw (seven-in (held r h), none-outside ok)
 
     evenly : spaced (numbers ++ beyond) r ≡ true
-    unfolding spaced rowAt
+    unfolding spaced rowFrom
     evenly =
         let d : (least (rangeOf 3) ≤ p .d) × (p .d ≤ most (rangeOf 3)) = (so .hull .particulars .d-least, so .hull .particulars .d-most) in
         let half : p .d * 2 / 2 ≡ p .d = omega arith in

@@ -14,21 +14,24 @@ use Rattle.ranges.specs.Sizes.{rowWidth, rowsOver, pointsOf}
 use Rattle.ranges.specs.declared.Particulars.{Particulars}
 use Rattle.hydrostatics.specs.Row.{rowOf}
 use Rattle.hydrostatics.specs.Row as Row
+use Rattle.hydrostatics.specs.declared.Row.{Row}
 
-module _ (table : List ℕ) (p : Particulars) where
+-- of any rows
+module _ (row : ℕ → Row) where
   -- the displacement of the row before row r; before the first there is none, so that a displacement of 0 is not above it
   unfoldable pub displacementBefore : ℕ → ℕ
   displacementBefore zero = 0
-  displacementBefore (suc r) = rowOf table p r .displacement
+  displacementBefore (suc r) = row r .displacement
 
   -- the numbers of the first `count` rows, "8 and 9 row by row upward"
   unfoldable pub rowsUpTo : ℕ → Outcome (List ℕ)
   rowsUpTo zero = answered []
   rowsUpTo (suc r) = andThen (rowsUpTo r) (λ before.
-      if leb (rowOf table p r .displacement) (displacementBefore r) then refused displacementNotRising r
-      else if ltb highestMetacentre (rowOf table p r .km) then refused metacentreTooHigh r
-      else answered (before ++ Row.numbersOf (rowOf table p r)))
+      if leb (row r .displacement) (displacementBefore r) then refused displacementNotRising r
+      else if ltb highestMetacentre (row r .km) then refused metacentreTooHigh r
+      else answered (before ++ Row.numbersOf (row r)))
 
+module _ (table : List ℕ) (p : Particulars) where
   -- "Rows: particulars, 7 (half-breadths exact, room at least 7(m−1)), half-breadths, then 8 and 9"
   unfoldable pub rowsOf : ℕ → Outcome (List ℕ)
   rowsOf room =
@@ -38,4 +41,4 @@ module _ (table : List ℕ) (p : Particulars) where
       else if not (eqb (length table) (pointsOf (p .n) (p .m))) then refused wrongSize halfBreadthTable
       else if ltb room (rowWidth * rowsOver (p .m)) then refused wrongSize rowTable
       else if ltb badHalfBreadth (length table) then refused outOfRange (placeOfHalfBreadths + badHalfBreadth)
-      else rowsUpTo (rowsOver (p .m))
+      else rowsUpTo (rowOf table p) (rowsOver (p .m))

@@ -1,4 +1,6 @@
-// The rows of a hull, by waterplanes, and their display.
+// The rows of a hull, by waterplanes and by sections, and their display.
+mod hull;
+mod sections;
 mod table;
 mod waterplanes;
 
@@ -14,8 +16,11 @@ ghost use Rattle.hydrostatics.specs.Promise.{MakesRows};
 ghost use Rattle.ranges.specs.Fields.{rowRanges};
 ghost use Rattle.ranges.specs.Sizes.{rowWidth};
 ghost use Rattle.hydrostatics.specs.Row.{numbersOf};
+ghost use Rattle.hydrostatics.specs.Private.Hull.{InRange};
+ghost use Rattle.hydrostatics.specs.Private.Sums.{MakesSums};
 use ranges::Particulars;
 use ranges::Refusal;
+use table::Sums;
 use table::fill_rows;
 use table::refused;
 
@@ -60,8 +65,25 @@ pub const MOST_ROWS: usize = ranges::MOST_ROWS;
 
 pub const ROW_ROOM: usize = ROW_WIDTH * MOST_ROWS;
 
-// The rows of a hull into the lent table.
-pub fn make_rows(half_breadths: &[u64], p: Particulars, rows: &mut [u64]) -> Rows
+// How the sums of a hull's rows are worked: waterline by waterline, or station by station as a surveyor does.
+enum Engine {
+    Waterplanes,
+    Sections,
+}
+
+// The five sums of every row of a hull in range, which are the same by either.
+fn sums_by(engine: Engine, half_breadths: &[u64], p: Particulars) -> [Sums; MOST_ROWS]
+    requires { ⌜ InRange (now «half_breadths») p ⌝ }
+    ensures { λ r. ⌜ MakesSums (now («half_breadths» .entry)) p r ⌝ }
+{
+    match engine {
+        Engine::Waterplanes => waterplanes::hull_sums(half_breadths, p),
+        Engine::Sections => sections::hull_sums(half_breadths, p),
+    }
+}
+
+// The rows of a hull into the lent table, by either.
+fn make_by(engine: Engine, half_breadths: &[u64], p: Particulars, rows: &mut [u64]) -> Rows
     ensures { λ r. ⌜ MakesRows (now («half_breadths» .entry)) p (now (rows .entry)) (now (rows .exit)) r ⌝ }
 {
     let particular = ranges::particular_outside(p);
@@ -80,7 +102,21 @@ pub fn make_rows(half_breadths: &[u64], p: Particulars, rows: &mut [u64]) -> Row
     if outside < half_breadths.len() {
         return refused(Refusal::OUT_OF_RANGE, Refusal::HALF_BREADTHS_AT + outside);
     }
-    fill_rows(half_breadths, p, rows)
+    fill_rows(p, sums_by(engine, half_breadths, p), rows)
+}
+
+// The rows of a hull into the lent table.
+pub fn make_rows(half_breadths: &[u64], p: Particulars, rows: &mut [u64]) -> Rows
+    ensures { λ r. ⌜ MakesRows (now («half_breadths» .entry)) p (now (rows .entry)) (now (rows .exit)) r ⌝ }
+{
+    make_by(Engine::Waterplanes, half_breadths, p, rows)
+}
+
+// The same rows by the plain calculation that a surveyor follows: station areas first, and then along the length.
+pub fn make_rows_by_sections(half_breadths: &[u64], p: Particulars, rows: &mut [u64]) -> Rows
+    ensures { λ r. ⌜ MakesRows (now («half_breadths» .entry)) p (now (rows .entry)) (now (rows .exit)) r ⌝ }
+{
+    make_by(Engine::Sections, half_breadths, p, rows)
 }
 
 // A metre in mm, which is also a tonne in kg, and a square metre in mm².

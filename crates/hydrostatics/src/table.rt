@@ -1,29 +1,44 @@
-// The table of rows: each row is made from its sums and tried, and only when all are made is each written into its part of
-// the lent table.
+// The table of rows, from the five sums of each on: each row is made from its sums and tried, and only when all are made is each
+// written into its part of the lent table. How the sums are made, no function here knows.
 ghost use mathlib.Core.Path.{_≡_};
-ghost use mathlib.Core.List.{List, _++_};
-ghost use Prim.Native.Nat.{ℕ, _*_, _≤_};
+ghost use mathlib.Core.List.{_++_};
+ghost use Prim.Native.Nat.{_*_, _≤_};
 ghost use lib.ListN.{length, getD, drop};
 ghost use Rattle.ranges.specs.Outcome.{refused as Outcome·refused};
 ghost use Rattle.ranges.specs.Sizes.{rowWidth, rowsOver, mostRows};
 ghost use Rattle.hydrostatics.specs.Promise.{paper};
-ghost use Rattle.hydrostatics.specs.Row.{rowAt, numbersOf};
-ghost use Rattle.hydrostatics.specs.Private.Table.{noRow, numbersUpTo, TriedRows, FillsRows};
-ghost use Rattle.hydrostatics.specs.Private.Waterplanes.{InRange, Given, Kept, SumsOf, SumsWithin};
+ghost use Rattle.ranges.specs.Private.InRange.{ParticularsInRange};
+ghost use Rattle.hydrostatics.specs.Row.{rowFrom, numbersOf};
+ghost use Rattle.hydrostatics.specs.Private.Sums.{SumsWithin, AllWithin};
+ghost use Rattle.hydrostatics.specs.Private.Table.{noRow, numbersUpTo, rowsFrom, TriedRows, FillsRows};
 use crate::MOST_ROWS;
 use crate::ROW_WIDTH;
 use crate::Row;
 use crate::Rows;
-use crate::waterplanes::Sums;
-use crate::waterplanes::cube_sum;
-use crate::waterplanes::row_sums;
-use crate::waterplanes::station_multipliers;
-use crate::waterplanes::waterplane_sums;
 use ranges::HIGHEST_METACENTRE;
-use ranges::MOST_STATIONS;
-use ranges::MOST_WATERLINES;
 use ranges::Particulars;
 use ranges::Refusal;
+
+// The five sums that the row of a waterline is made of: S, Sz and Sx over its waterlines, Q and C of its own.
+pub(crate) struct Sums {
+    pub sum: u64,
+    pub sz: u64,
+    pub sx: u64,
+    pub q: u64,
+    pub c: u64,
+}
+
+// Row r belongs to waterline r + 2.
+pub(crate) const FIRST_WATERLINE: usize = 2;
+
+// What stands where no sums are made yet.
+pub(crate) const NO_SUMS: Sums = Sums {
+    sum: 0,
+    sz: 0,
+    sx: 0,
+    q: 0,
+    c: 0,
+};
 
 // The rows of a hull before they are written, and what is answered.
 struct Tried {
@@ -46,9 +61,9 @@ const NO_ROW: Row = Row {
 const VOLUME_UNITS: u64 = 288_000_000_000;
 
 // The row of waterline k, from its sums. Where S is 0 the quotients by it are 0, as the row's displacement is.
-fn row_from(p: Particulars, k: usize, sums: Sums, q: u64, c: u64) -> Row
-    requires { ⌜ SumsWithin p k sums q c ⌝ }
-    ensures { λ r. ⌜ ((table : List ℕ) → SumsOf table p k sums q c → r ≡ rowAt table p k) ⌝ }
+fn row_from(p: Particulars, k: usize, sums: Sums) -> Row
+    requires { ⌜ ParticularsInRange p × SumsWithin k sums ⌝ }
+    ensures { λ r. ⌜ r ≡ rowFrom p k sums ⌝ }
 {
     let s = p.s;
     let d = p.d;
@@ -56,6 +71,8 @@ fn row_from(p: Particulars, k: usize, sums: Sums, q: u64, c: u64) -> Row
     let sum = sums.sum;
     let sz = sums.sz;
     let sx = sums.sx;
+    let q = sums.q;
+    let c = sums.c;
     let draft = d * k as u64;
     let displacement = s * d * sum * density / VOLUME_UNITS;
     let area = s * q / 12;
@@ -86,23 +103,6 @@ fn row_from(p: Particulars, k: usize, sums: Sums, q: u64, c: u64) -> Row
     }
 }
 
-// The row of waterline k, from what is kept of the hull.
-fn row_at(
-    table: &[u64],
-    u: &[u64; MOST_STATIONS],
-    q: &[u64; MOST_WATERLINES],
-    x: &[u64; MOST_WATERLINES],
-    p: Particulars,
-    k: usize,
-) -> Row
-    requires { ⌜ (Given (now table) p (now u)) × (Kept (now table) p (now q) (now x)) × (k ≤ p .m) ⌝ }
-    ensures { λ r. ⌜ r ≡ rowAt (now (table .entry)) p k ⌝ }
-{
-    let sums = row_sums(q, x, k);
-    let c = cube_sum(table, u, p, k);
-    row_from(p, k, sums, q[k], c)
-}
-
 // The answer that refuses.
 pub(crate) fn refused(number: u64, place: usize) -> Rows
     ensures { λ r. ⌜ paper r ≡ Outcome·refused number place ⌝ }
@@ -110,23 +110,17 @@ pub(crate) fn refused(number: u64, place: usize) -> Rows
     Rows::Refused(Refusal { number, place })
 }
 
-// Every row made and tried, row by row upward, from what is kept of the hull.
-fn try_upward(
-    table: &[u64],
-    u: &[u64; MOST_STATIONS],
-    q: &[u64; MOST_WATERLINES],
-    x: &[u64; MOST_WATERLINES],
-    p: Particulars,
-) -> Tried
-    requires { ⌜ (Given (now table) p (now u)) × (Kept (now table) p (now q) (now x)) ⌝ }
-    ensures { λ r. ⌜ TriedRows (now (table .entry)) p r ⌝ }
+// Every row made and tried, row by row upward.
+fn try_rows(p: Particulars, sums: [Sums; MOST_ROWS]) -> Tried
+    requires { ⌜ AllWithin p sums ⌝ }
+    ensures { λ r. ⌜ TriedRows (rowsFrom p sums) (rowsOver (p .m)) r ⌝ }
 {
     let count = p.m - 1;
     let mut rows = [NO_ROW; MOST_ROWS];
     let mut before: u64 = 0;
     let mut r: usize = 0;
     while r < count {
-        let row = row_at(table, u, q, x, p, r + 2);
+        let row = row_from(p, r + FIRST_WATERLINE, sums[r]);
         let displacement = row.displacement;
         let km = row.km;
         if displacement <= before {
@@ -143,18 +137,6 @@ fn try_upward(
     }
     let answer = Rows::Made(count);
     Tried { rows, answer }
-}
-
-// Every row made and tried.
-fn try_rows(table: &[u64], p: Particulars) -> Tried
-    requires { ⌜ InRange (now table) p ⌝ }
-    ensures { λ r. ⌜ TriedRows (now (table .entry)) p r ⌝ }
-{
-    let u = station_multipliers(p.n);
-    let planes = waterplane_sums(table, &u, p);
-    let q = planes.q;
-    let x = planes.x;
-    try_upward(table, &u, &q, &x, p)
 }
 
 // One row, into the front of the part of the table that it is lent.
@@ -185,12 +167,12 @@ fn write_rows(made: [Row; MOST_ROWS], count: usize, rows: &mut [u64])
     }
 }
 
-// The rows of a hull in range: tried first, with the table untouched, and written once all have passed.
-pub(crate) fn fill_rows(table: &[u64], p: Particulars, rows: &mut [u64]) -> Rows
-    requires { ⌜ (InRange (now table) p) × (rowWidth * rowsOver (p .m) ≤ length (now rows)) ⌝ }
-    ensures { λ r. ⌜ FillsRows (now (table .entry)) p (now (rows .entry)) (now (rows .exit)) r ⌝ }
+// The rows of these sums: tried first, with the table untouched, and written once all have passed.
+pub(crate) fn fill_rows(p: Particulars, sums: [Sums; MOST_ROWS], rows: &mut [u64]) -> Rows
+    requires { ⌜ AllWithin p sums × (rowWidth * rowsOver (p .m) ≤ length (now rows)) ⌝ }
+    ensures { λ r. ⌜ FillsRows (rowsFrom p sums) (rowsOver (p .m)) (now (rows .entry)) (now (rows .exit)) r ⌝ }
 {
-    let tried = try_rows(table, p);
+    let tried = try_rows(p, sums);
     let answer = tried.answer;
     if let Rows::Made(count) = answer {
         let made = tried.rows;

@@ -4,33 +4,41 @@ ghost use mathlib.Core.Path.{_≡_};
 ghost use Prim.Native.Nat.{_+_, _≤_};
 ghost use Rattle.ranges.specs.Fields.{rangeOf, most};
 ghost use Rattle.simpson.specs.Multipliers.{multiplier};
-ghost use Rattle.hydrostatics.specs.Hull.{halfBreadth, C};
-ghost use Rattle.hydrostatics.specs.Private.Waterplanes.{Filled, InRange, Given, WaterlineOf, Kept, Small, Over};
+ghost use Rattle.hydrostatics.specs.Hull.{C};
+ghost use Rattle.hydrostatics.specs.Row.{sumsAt};
+ghost use Rattle.hydrostatics.specs.Private.Hull.{Filled, InRange};
+ghost use Rattle.hydrostatics.specs.Private.Sums.{MakesSums};
+ghost use Rattle.hydrostatics.specs.Private.Waterplanes.{Given, WaterlineOf, Kept, Small, Over};
+use crate::MOST_ROWS;
+use crate::hull::half_breadth_at;
+use crate::table::FIRST_WATERLINE;
+use crate::table::NO_SUMS;
+use crate::table::Sums;
 use ranges::MOST_STATIONS;
 use ranges::MOST_WATERLINES;
 use ranges::Particulars;
 
 // The sums over one waterline: of u·y, and of u·y times the station's number.
-pub(crate) struct Waterline {
+struct Waterline {
     pub q: u64,
     pub x: u64,
 }
 
 // The sums over every waterline.
-pub(crate) struct Waterplanes {
+struct Waterplanes {
     pub q: [u64; MOST_WATERLINES],
     pub x: [u64; MOST_WATERLINES],
 }
 
 // The sums over the waterlines of a row: of u·v·y, and of each term times its waterline's and times its station's number.
-pub(crate) struct Sums {
+struct Volume {
     pub sum: u64,
     pub sz: u64,
     pub sx: u64,
 }
 
 // The multipliers of the stations over n intervals.
-pub(crate) fn station_multipliers(n: usize) -> [u64; MOST_STATIONS]
+fn station_multipliers(n: usize) -> [u64; MOST_STATIONS]
     requires { ⌜ n ≤ most (rangeOf 0) ⌝ }
     ensures { λ r. ⌜ Filled 0 (multiplier n) (n + 1) r ⌝ }
 {
@@ -41,14 +49,6 @@ pub(crate) fn station_multipliers(n: usize) -> [u64; MOST_STATIONS]
         i += 1;
     }
     u
-}
-
-// The half-breadth at station i, waterline j: station by station from aft, each from the keel up.
-fn half_breadth_at(table: &[u64], p: Particulars, i: usize, j: usize) -> u64
-    requires { ⌜ (InRange (now table) p) × (i ≤ p .n) × (j ≤ p .m) ⌝ }
-    ensures { λ r. ⌜ r ≡ halfBreadth (now (table .entry)) p i j ⌝ }
-{
-    table[i * (p.m + 1) + j]
 }
 
 // The sums over waterline j.
@@ -70,11 +70,7 @@ fn waterline_sums(table: &[u64], u: &[u64; MOST_STATIONS], p: Particulars, j: us
 }
 
 // The sums over every waterline, each made once.
-pub(crate) fn waterplane_sums(
-    table: &[u64],
-    u: &[u64; MOST_STATIONS],
-    p: Particulars,
-) -> Waterplanes
+fn waterplane_sums(table: &[u64], u: &[u64; MOST_STATIONS], p: Particulars) -> Waterplanes
     requires { ⌜ Given (now table) p (now u) ⌝ }
     ensures { λ r. ⌜ Kept (now (table .entry)) p (r .q) (r .x) ⌝ }
 {
@@ -92,7 +88,7 @@ pub(crate) fn waterplane_sums(
 }
 
 // The sum of u·y³ over waterline k.
-pub(crate) fn cube_sum(table: &[u64], u: &[u64; MOST_STATIONS], p: Particulars, k: usize) -> u64
+fn cube_sum(table: &[u64], u: &[u64; MOST_STATIONS], p: Particulars, k: usize) -> u64
     requires { ⌜ (Given (now table) p (now u)) × (k ≤ p .m) ⌝ }
     ensures { λ r. ⌜ r ≡ C (now (table .entry)) p k ⌝ }
 {
@@ -108,7 +104,7 @@ pub(crate) fn cube_sum(table: &[u64], u: &[u64; MOST_STATIONS], p: Particulars, 
 }
 
 // The sums over the waterlines 0..k, from what is kept of each.
-pub(crate) fn row_sums(q: &[u64; MOST_WATERLINES], x: &[u64; MOST_WATERLINES], k: usize) -> Sums
+fn row_sums(q: &[u64; MOST_WATERLINES], x: &[u64; MOST_WATERLINES], k: usize) -> Volume
     requires { ⌜ Small k (now q) (now x) ⌝ }
     ensures { λ r. ⌜ Over k (now (q .entry)) (now (x .entry)) r ⌝ }
 {
@@ -124,5 +120,61 @@ pub(crate) fn row_sums(q: &[u64; MOST_WATERLINES], x: &[u64; MOST_WATERLINES], k
         sx += v * x[j];
         j += 1;
     }
-    Sums { sum, sz, sx }
+    Volume { sum, sz, sx }
+}
+
+// The five sums of the row of waterline k, from what is kept of the hull.
+fn sums_at(
+    table: &[u64],
+    u: &[u64; MOST_STATIONS],
+    q: &[u64; MOST_WATERLINES],
+    x: &[u64; MOST_WATERLINES],
+    p: Particulars,
+    k: usize,
+) -> Sums
+    requires { ⌜ (Given (now table) p (now u)) × (Kept (now table) p (now q) (now x)) × (k ≤ p .m) ⌝ }
+    ensures { λ r. ⌜ r ≡ sumsAt (now (table .entry)) p k ⌝ }
+{
+    let volume = row_sums(q, x, k);
+    let c = cube_sum(table, u, p, k);
+    Sums {
+        sum: volume.sum,
+        sz: volume.sz,
+        sx: volume.sx,
+        q: q[k],
+        c,
+    }
+}
+
+// The five sums of every row, from what is kept of the hull.
+fn sums_upward(
+    table: &[u64],
+    u: &[u64; MOST_STATIONS],
+    q: &[u64; MOST_WATERLINES],
+    x: &[u64; MOST_WATERLINES],
+    p: Particulars,
+) -> [Sums; MOST_ROWS]
+    requires { ⌜ (Given (now table) p (now u)) × (Kept (now table) p (now q) (now x)) ⌝ }
+    ensures { λ r. ⌜ MakesSums (now (table .entry)) p r ⌝ }
+{
+    let count = p.m - 1;
+    let mut sums = [NO_SUMS; MOST_ROWS];
+    let mut r: usize = 0;
+    while r < count {
+        sums[r] = sums_at(table, u, q, x, p, r + FIRST_WATERLINE);
+        r += 1;
+    }
+    sums
+}
+
+// The five sums of every row of a hull in range.
+pub(crate) fn hull_sums(table: &[u64], p: Particulars) -> [Sums; MOST_ROWS]
+    requires { ⌜ InRange (now table) p ⌝ }
+    ensures { λ r. ⌜ MakesSums (now (table .entry)) p r ⌝ }
+{
+    let u = station_multipliers(p.n);
+    let planes = waterplane_sums(table, &u, p);
+    let q = planes.q;
+    let x = planes.x;
+    sums_upward(table, &u, &q, &x, p)
 }

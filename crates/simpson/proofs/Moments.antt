@@ -5,20 +5,25 @@
 --     curve-of-square, curve-of-cube     and the other two: 8n³, 6n⁴
 --     answer-exact                       so is the sum that the call answers
 --     curve-le                           a bound on each ordinate bounds the sum, by the rectangle's area
+--     ordinate-le                        no ordinate is above the sum
 -- Assumes nothing.
 use mathlib.Core.Path.{_≡_, refl, ap, _∙_}
 use mathlib.Core.Bool.{Bool, true, false}
 use mathlib.Core.List.{List}
 use Prim.Native.Nat.{ℕ, zero, suc, _+_, _-_, _*_, _^_, _≤_, _<_}
+use native.Mathlib.Nat.{le-trans, mul-le-mul-right}
 use native.Mathlib.Omega.{arith}
 use borrow.Author.Tests.{ltb-false}
 use lib.Dec.{ltb}
 use lib.IntN.{ℤ, pos}
 use lib.ListN.{length, getD}
 use Rattle.arithmetic.specs.Choice.{if_then_else_}
+use Rattle.arithmetic.proofs.Sums.{term-le-sum}
+use Rattle.simpson.specs.Multipliers.{multiplier}
 use Rattle.simpson.specs.Curve.{curve, curveSumOf}
 use Rattle.simpson.specs.Cubic.{cubic, area}
 use Rattle.simpson.specs.declared.CurveSum.the-variants.{Sum, TooShort, TooLarge}
+use Rattle.simpson.proofs.ByPlace.{multiplier-ge}
 use Rattle.simpson.proofs.Exact.{curveℤ-of-cubic}
 use Rattle.arithmetic.proofs.Whole.{pos-injective, pos-pow}
 use Rattle.simpson.proofs.Curves.{pos-curve, curve-same, curveℤ-same, curve-times, curve-mono, curve-few}
@@ -52,6 +57,11 @@ curve-le (suc zero) b y h = omega (arith, curve-few 1 y (omega arith))
 curve-le (suc (suc n)) b y h =
     let m = suc (suc n) in
     omega (arith, curve-mono m y (λ i. b * 1) (λ i l. omega (arith, h i l)), curve-times m b (λ i. 1), ap (λ s. b * s) (curve-of-one m (omega arith)))
+
+pub ordinate-le : (n : ℕ) (y : ℕ → ℕ) (i : ℕ) → 2 ≤ n → i ≤ n → y i ≤ curve n y
+unfolding curve
+ordinate-le n y i h l =
+    le-trans (omega (arith, mul-le-mul-right (y i) (multiplier-ge n i h l))) (term-le-sum (n + 1) i (λ i. multiplier n i * y i) (omega arith))
 
 -- ---- the call's answer
 -- no sum is another answer

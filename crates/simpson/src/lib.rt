@@ -6,20 +6,20 @@ ghost use Rattle.simpson.specs.Private.Places.{repeatedFirst, secondLast
 ghost use Rattle.simpson.specs.Curve.{curveSumOf};
 
 // The first rule covers two intervals. Its multipliers, in 24ths of one: at its ends, between them, and where it meets itself.
-const FIRST_INTERVALS: usize = 2;
+pub const FIRST_INTERVALS: usize = 2;
 
-const FIRST_END: u64 = 8;
+pub const FIRST_END: u64 = 8;
 
-const FIRST_BETWEEN: u64 = 32;
+pub const FIRST_BETWEEN: u64 = 32;
 
 const FIRST_MEETS_FIRST: u64 = 16;
 
 // The second rule covers three. At its ends, between them, and where the first rule meets it.
-const SECOND_INTERVALS: usize = 3;
+pub const SECOND_INTERVALS: usize = 3;
 
-const SECOND_END: u64 = 9;
+pub const SECOND_END: u64 = 9;
 
-const SECOND_BETWEEN: u64 = 27;
+pub const SECOND_BETWEEN: u64 = 27;
 
 const FIRST_MEETS_SECOND: u64 = 17;
 

@@ -15,7 +15,7 @@ write-rows-requires : tie.Need-write-rows-requires
 write-rows-requires c κs =
     let t = c .before .before .before .before .before in
     let count = made-count (t .try-rows .ensures) (c .before .before .before .answer .given .1) in
-    let given = t .before .before .before .pre in
+    let given = t .before .before .pre in
     (omega arith, omega arith)
 
 enum-told : tie.Need-enum-told

@@ -22,7 +22,7 @@ mul-area : tie.Need-mul-area
 mul-area c = omega (arith, products (c .pre))
 
 returns : tie.Need-returns
-returns c = λ table of. row-empty table of (c .if1 .taken)
+returns c = row-empty _ _ _ (c .if1 .taken)
 
 mul-lcb : tie.Need-mul-lcb
 mul-lcb c = omega (arith, products (c .before .pre))
@@ -61,7 +61,7 @@ div-km : tie.Need-div-km
 div-km c = mul-pos (omega arith) (omega arith)
 
 returns-2 : tie.Need-returns-2
-returns-2 c = λ table of. row-is table of
+returns-2 c = row-is _ _ _
 
 pub row-from-spec : {M : Type 1} → statement M
 row-from-spec =

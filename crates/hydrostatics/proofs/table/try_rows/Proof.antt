@@ -3,15 +3,16 @@ use Prim.Native.Nat.{_-_, _≤_}
 use mathlib.Core.Path.{refl}
 use native.Mathlib.Omega.{arith}
 use borrow.Author.Needs.{needs}
+use Rattle.hydrostatics.specs.Private.Table.{rowsFrom}
 use Rattle.hydrostatics.proofs.Passing.{Passing, passing-none, passing-more, passing-all, too-low, too-high, refusal}
-use Rattle.hydrostatics.proofs.table.try_upward.Statement.{statement}
-use Rattle.hydrostatics.proofs.table.try_upward.Tie as tie
+use Rattle.hydrostatics.proofs.table.try_rows.Statement.{statement}
+use Rattle.hydrostatics.proofs.table.try_rows.Tie as tie
 
 abbrev Inv-loop : tie.InvT-loop
-Inv-loop table u q x p count rows₀ before₀ r₀ rows before r = (r ≤ count) × Passing table p r before rows
+Inv-loop p sums count rows₀ before₀ r₀ rows before r = (r ≤ count) × Passing (rowsFrom p sums) r before rows
 
 abbrev μ-loop : tie.MeasureT-loop
-μ-loop table u q x p count rows₀ before₀ r₀ rows before r = count - r
+μ-loop p sums count rows₀ before₀ r₀ rows before r = count - r
 
 sub-count : tie.Need-sub-count Inv-loop μ-loop
 sub-count c = omega arith
@@ -19,27 +20,35 @@ sub-count c = omega arith
 loop-holds : tie.Need-loop-holds Inv-loop μ-loop
 loop-holds c = (omega arith, passing-none refl)
 
-add-row-at : tie.Need-add-row-at Inv-loop μ-loop
-add-row-at c = omega arith
+add-row-from : tie.Need-add-row-from Inv-loop μ-loop
+add-row-from c = omega arith
 
-row-at-requires : tie.Need-row-at-requires Inv-loop μ-loop
-row-at-requires c κs = let given = c .before .before .before .before .pre in (given .0, given .1, omega arith)
+mul-row-from : tie.Need-mul-row-from Inv-loop μ-loop
+mul-row-from c = omega arith
+
+array-copy-out-row-from : tie.Need-array-copy-out-row-from Inv-loop μ-loop
+array-copy-out-row-from c = omega arith
+
+row-from-requires : tie.Need-row-from-requires Inv-loop μ-loop
+row-from-requires c κs =
+    let given = c .before .before .before .before .pre in
+    (given .particulars, given .each _ (omega arith))
 
 refused-requires : tie.Need-refused-requires Inv-loop μ-loop
 refused-requires c κs = search needs
 
 returns : tie.Need-returns Inv-loop μ-loop
 returns c =
-    let l = c .before .before .before .before in
-    refusal (too-low (l .loop .inv .1) (c .before .before .row-at .ensures) (c .before .if1 .taken) _ (omega arith)) (c .refused .ensures)
+    let l = c .before .before .before .before .before in
+    refusal (too-low (l .loop .inv .1) (c .before .before .row-from .ensures) (c .before .if1 .taken) _ (omega arith)) (c .refused .ensures)
 
 refused-requires-2 : tie.Need-refused-requires-2 Inv-loop μ-loop
 refused-requires-2 c κs = search needs
 
 returns-2 : tie.Need-returns-2 Inv-loop μ-loop
 returns-2 c =
-    let l = c .before .before .before .before .before in
-    refusal (too-high (l .loop .inv .1) (c .before .before .before .row-at .ensures) (c .before .before .if1 .left) (c .before .if2 .taken) _ (omega arith)) (c .refused2 .ensures)
+    let l = c .before .before .before .before .before .before in
+    refusal (too-high (l .loop .inv .1) (c .before .before .before .row-from .ensures) (c .before .before .if1 .left) (c .before .if2 .taken) _ (omega arith)) (c .refused2 .ensures)
 
 mul-rows : tie.Need-mul-rows Inv-loop μ-loop
 mul-rows c = omega arith
@@ -55,22 +64,24 @@ loop-less c = omega arith
 
 loop-again : tie.Need-loop-again Inv-loop μ-loop
 loop-again c =
-    let l = c .before .before .before .before in
-    (omega arith, passing-more (l .loop .inv .1) (c .before .before .row-at .ensures) (c .before .if1 .left) (c .if2 .left) (omega arith))
+    let l = c .before .before .before .before .before in
+    (omega arith, passing-more (l .loop .inv .1) (c .before .before .row-from .ensures) (c .before .if1 .left) (c .if2 .left) (omega arith))
 
 returns-3 : tie.Need-returns-3 Inv-loop μ-loop
 returns-3 c = passing-all (c .before .loop .inv .1) (omega arith)
 
-pub try-upward-spec : {M : Type 1} → statement M
-try-upward-spec =
+pub try-rows-spec : {M : Type 1} → statement M
+try-rows-spec =
     tie.close
     (tie.spec
     Inv-loop
     μ-loop
     sub-count
     loop-holds
-    add-row-at
-    row-at-requires
+    add-row-from
+    mul-row-from
+    array-copy-out-row-from
+    row-from-requires
     refused-requires
     returns
     refused-requires-2

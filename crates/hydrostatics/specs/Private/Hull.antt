@@ -1,0 +1,18 @@
+-- A hull in range, and lists that code fills: what both engines rest on. No definition of a row cites this file.
+use Prim.Native.Nat.{ℕ, _<_}
+use mathlib.Core.Path.{_≡_}
+use mathlib.Core.List.{List}
+use lib.ListN.{length, getD}
+use Rattle.ranges.specs.Private.InRange.{ParticularsInRange, HalfBreadthsInRange}
+use Rattle.ranges.specs.Sizes.{pointsOf}
+use Rattle.ranges.specs.declared.Particulars.{Particulars}
+
+-- the list has f 0, f 1, … at its first `count` places
+pub record Filled {A : Type 0} (none : A) (f : ℕ → A) (count : ℕ) (l : List A) : Type 0 where
+  pub at : (i : ℕ) → i < count → getD l i none ≡ f i
+
+-- a hull in range, with a half-breadth for each station and waterline
+pub record InRange (table : List ℕ) (p : Particulars) : Type 0 where
+  pub particulars : ParticularsInRange p
+  pub half-breadths : HalfBreadthsInRange table
+  pub complete : length table ≡ pointsOf (p .n) (p .m)
