@@ -74,5 +74,5 @@ module _ {table : List ℕ} {p : Particulars} {rows : List ℕ} {answer : Rows} 
   unfolding answerWith leftWith
   refuses e f = record { answer-is = rw e f; left = rw e }
 
-  pub makes : {after : List ℕ} → rowsOf table p (length rows) ≡ rowsUpTo (rowOf table p) (rowsOver (p .m)) → FillsRows (rowOf table p) (rowsOver (p .m)) rows after answer → MakesRows table p rows after answer
-  makes e f = record { answer-is = rw e (f .answer-is); left = rw e (f .left) }
+  pub makes : {after : List ℕ} → rowsOf table p (length rows) ≡ rowsUpTo (rowOf table p) (rowsOver (p .m)) → FillsRows (rowOf table p) (rowsOver (p .m)) answer rows after → MakesRows table p rows after answer
+  makes e f = record { answer-is = rw e (f .tried .answer-is); left = rw e (f .left) }

@@ -2,7 +2,7 @@
 --     Passed, passed           every row among the first `count` has passed 8 and 9, and the numbers are theirs
 --     counted                  what a row count tells of the rows
 --     made-count               the answer carries the row count
---     made-left, refused-left  the table after a success, by the rows that were kept, and after a refusal
+--     made-left, refused-left  the table after a success, and after a refusal
 -- Assumes nothing.
 use mathlib.Core.Path.{_≡_, sym, ap, _∙_}
 use mathlib.Core.List.{List, _++_}
@@ -11,7 +11,7 @@ use native.Mathlib.Omega.{arith}
 use borrow.Author.Count.{below-none, below-more}
 use borrow.Author.Tests.{leb-false, ltb-false}
 use lib.Dec.{leb, ltb}
-use lib.ListN.{length, getD, drop}
+use lib.ListN.{length, drop}
 use native.Mathlib.Numerals.{add-one}
 use Rattle.arithmetic.specs.Choice.{if_then_else_}
 use Rattle.ranges.specs.Fields.{highestMetacentre}
@@ -21,13 +21,13 @@ use Rattle.ranges.specs.Sizes.{rowWidth}
 use Rattle.hydrostatics.specs.Promise.{paper, countOf, rowCount}
 use Rattle.hydrostatics.specs.Row.{numbersOf}
 use Rattle.hydrostatics.specs.Rows.{displacementBefore, rowsUpTo}
-use Rattle.hydrostatics.specs.Private.Table.{noRow, numbersUpTo, TriedRows, FillsRows}
+use Rattle.hydrostatics.specs.Private.Table.{numbersUpTo, TriedRows, FillsRows}
 use Rattle.hydrostatics.specs.declared.Row.{Row}
+use Rattle.hydrostatics.specs.declared.Rows.{Rows}
 use Rattle.hydrostatics.specs.declared.Rows.the-variants.{Made, Refused}
-use Rattle.hydrostatics.specs.declared.table.Tried.{Tried}
 use Rattle.ranges.specs.declared.Refusal.{Refusal}
 use Rattle.ranges.proofs.Outcomes.{not-refused, answered-then, with-answered, with-refused, left-refused}
-use Rattle.hydrostatics.proofs.Writing.{numbers-length, numbers-same}
+use Rattle.hydrostatics.proofs.Writing.{numbers-length}
 
 below-suc : {P : ℕ → Type 0} (r : ℕ) → ((i : ℕ) → i < r → P i) → P r → (i : ℕ) → i < suc r → P i
 below-suc {P} r all here = rw add-one at (below-more P r all here)
@@ -62,8 +62,8 @@ module _ {row : ℕ → Row} where
 pub counted : {X : Type 0} (o : Outcome (List ℕ)) {count : ℕ} → answered count ≡ countOf o → ((numbers : List ℕ) → o ≡ answered numbers → count ≡ length numbers / rowWidth → X) → X
 counted o e on = let x = with-answered rowCount o (sym e) in on (x .0) (x .1) (x .2)
 
-module _ {row : ℕ → Row} {count : ℕ} {tried : Tried} (so : TriedRows row count tried) where
-  module _ {made : ℕ} (is : tried .answer ≡ Made made) where
+module _ {row : ℕ → Row} {count : ℕ} {answer : Rows} (so : TriedRows row count answer) where
+  module _ {made : ℕ} (is : answer ≡ Made made) where
     all : (made ≡ count) × (rowsUpTo row count ≡ answered (numbersUpTo row count))
     all =
         counted (rowsUpTo row count) (sym (ap paper is) ∙ so .answer-is) (λ numbers o e.
@@ -75,16 +75,14 @@ module _ {row : ℕ → Row} {count : ℕ} {tried : Tried} (so : TriedRows row c
     pub made-count : made ≡ count
     made-count = all .0
 
-    pub made-left : {was after : List ℕ} → after ≡ numbersUpTo (λ r. getD (tried .rows) r noRow) made ++ drop (rowWidth * made) was → FillsRows row count was after (Made made)
+    pub made-left : {was after : List ℕ} → after ≡ numbersUpTo row made ++ drop (rowWidth * made) was → FillsRows row count (Made made) was after
     unfolding leftWith
-    made-left {was} e = record {
-      answer-is = sym (ap paper is) ∙ so .answer-is;
-      left =
-          let kept = numbers-same (λ r. getD (tried .rows) r noRow) row made (so .rows-are made is .at) in
-          rw (all .1, numbers-length row count, ← made-count) (e ∙ ap (λ l. l ++ drop (rowWidth * made) was) kept);
+    made-left e = record {
+      tried = record { answer-is = sym (ap paper is) ∙ so .answer-is };
+      left = rw (all .1, numbers-length row count, ← made-count) e;
     }
 
-  pub refused-left : {r : Refusal} {was : List ℕ} → tried .answer ≡ Refused r → FillsRows row count was was (tried .answer)
+  pub refused-left : {r : Refusal} {was : List ℕ} → answer ≡ Refused r → FillsRows row count answer was was
   refused-left {was = was} e =
       let rows = rowsUpTo row count in
-      record { answer-is = so .answer-is; left = sym (left-refused (λ numbers. numbers) rows was (with-refused rowCount rows (sym (so .answer-is) ∙ ap paper e))) }
+      record { tried = so; left = sym (left-refused (λ numbers. numbers) rows was (with-refused rowCount rows (sym (so .answer-is) ∙ ap paper e))) }

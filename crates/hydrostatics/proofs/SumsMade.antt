@@ -49,7 +49,7 @@ module _ {table : List ℕ} {p : Particulars} where
       each = λ r h. rw (made .each .at r h) (sums-within hull (omega (arith, hull .particulars .m-most)));
     }
 
-    pub fills-hull : {rows after : List ℕ} {answer : Rows} → FillsRows (rowsFrom p sums) (rowsOver (p .m)) rows after answer → FillsRows (rowOf table p) (rowsOver (p .m)) rows after answer
+    pub fills-hull : {rows after : List ℕ} {answer : Rows} → FillsRows (rowsFrom p sums) (rowsOver (p .m)) answer rows after → FillsRows (rowOf table p) (rowsOver (p .m)) answer rows after
     fills-hull filled =
         let same = up-to-same (rowsFrom p sums) (rowOf table p) (rowsOver (p .m)) (λ r h. ap (rowFrom p (waterlineOf r)) (made .each .at r h)) in
-        record { answer-is = rw same at (filled .answer-is); left = rw same at (filled .left) }
+        record { tried = record { answer-is = rw same at (filled .tried .answer-is) }; left = rw same at (filled .left) }

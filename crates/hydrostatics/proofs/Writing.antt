@@ -1,9 +1,9 @@
 -- Rows as they lie in a table, and the table that is written row by row.
---     numbers-more, numbers-length, numbers-same       one row more, in the code's `r + 1`; seven numbers a row; equal rows, equal numbers
+--     numbers-more, numbers-length                     one row more, in the code's `r + 1`; seven numbers a row
 --     Written                                          the table after the first r rows
 --     written-none, written-more, written-all          before the first row; one row more, by its part; after the last
 -- Assumes nothing.
-use mathlib.Core.Path.{_≡_, refl, ap, ap₂, subst, _∙_}
+use mathlib.Core.Path.{_≡_, refl, ap, subst, _∙_}
 use mathlib.Core.List.{List, _++_}
 use Prim.Native.Nat.{ℕ, zero, suc, _+_, _-_, _*_, _≤_, _<_}
 use native.Mathlib.Nat.{mul-suc}
@@ -25,12 +25,6 @@ unfolding numbersUpTo
 numbers-length row zero = refl
 numbers-length row (suc r) = rw (length-append, numbers-length row r, mul-suc)
 
-pub numbers-same : (f g : ℕ → Row) (count : ℕ) → ((r : ℕ) → r < count → f r ≡ g r) → numbersUpTo f count ≡ numbersUpTo g count
-unfolding numbersUpTo
-numbers-same f g zero h = refl
-numbers-same f g (suc r) h =
-    ap₂ _++_ (numbers-same f g r (λ i l. h i (omega arith))) (ap numbersOf (h r (omega arith)))
-
 pub record Written (row : ℕ → Row) (was : List ℕ) (r : ℕ) (rows : List ℕ) : Type 0 where
   pub long : length rows ≡ length was
   pub so-far : rows ≡ numbersUpTo row r ++ drop (rowWidth * r) was
@@ -43,15 +37,16 @@ module _ {row : ℕ → Row} {was : List ℕ} where
   module _ {r : ℕ} {rows : List ℕ} (so : Written row was r rows) where
     -- the part from 7r on came back with the row in front
     pub written-more :
-        (back : List ℕ)
+        {made : Row} → made ≡ row r
+        → (back : List ℕ)
         → rowWidth * (r + 1) ≤ length was
-        → back ≡ numbersOf (row r) ++ drop rowWidth (take (length rows - rowWidth * r) (drop (rowWidth * r) rows))
+        → back ≡ numbersOf made ++ drop rowWidth (take (length rows - rowWidth * r) (drop (rowWidth * r) rows))
         → Written row was (r + 1) (take (rowWidth * r) rows ++ (back ++ drop (length rows - rowWidth * r) (drop (rowWidth * r) rows)))
-    written-more back h e =
+    written-more is back h e =
         let next : rowWidth * (r + 1) ≡ rowWidth * r + rowWidth = omega arith in
         let whole = take (rowWidth * r) rows ++ (back ++ drop (length rows - rowWidth * r) (drop (rowWidth * r) rows)) in
         let filled : whole ≡ numbersUpTo row (r + 1) ++ drop (rowWidth * (r + 1)) was =
-        rw (numbers-more row r, next) (part-filled (rowWidth * r) rowWidth (numbersUpTo row r) (numbersOf (row r)) rows was back (numbers-length row r) (so .so-far) e) in
+        rw (numbers-more row r, next) (part-filled (rowWidth * r) rowWidth (numbersUpTo row r) (numbersOf (row r)) rows was back (numbers-length row r) (so .so-far) (rw is at e)) in
         record {
           long = ap length filled ∙ length-append (numbersUpTo row (r + 1)) (drop (rowWidth * (r + 1)) was) ∙ omega (arith, numbers-length row (r + 1), length-drop (rowWidth * (r + 1)) was);
           so-far = filled;

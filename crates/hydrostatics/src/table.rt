@@ -1,16 +1,16 @@
-// The table of rows, from the five sums of each on: each row is made from its sums and tried, and only when all are made is each
-// written into its part of the lent table. How the sums are made, no function here knows.
+// The table of rows, from the five sums of each on: each row is made from its sums and tried, and only when all have passed is each
+// made again and written into its part of the lent table. How the sums are made, no function here knows.
 ghost use mathlib.Core.Path.{_≡_};
 ghost use mathlib.Core.List.{_++_};
 ghost use Prim.Native.Nat.{_*_, _≤_};
-ghost use lib.ListN.{length, getD, drop};
+ghost use lib.ListN.{length, drop};
 ghost use Rattle.ranges.specs.Outcome.{refused as Outcome·refused};
-ghost use Rattle.ranges.specs.Sizes.{rowWidth, rowsOver, mostRows};
+ghost use Rattle.ranges.specs.Sizes.{rowWidth, rowsOver};
 ghost use Rattle.hydrostatics.specs.Promise.{paper};
 ghost use Rattle.ranges.specs.Private.InRange.{ParticularsInRange};
 ghost use Rattle.hydrostatics.specs.Row.{rowFrom, numbersOf};
 ghost use Rattle.hydrostatics.specs.Private.Sums.{SumsWithin, AllWithin};
-ghost use Rattle.hydrostatics.specs.Private.Table.{noRow, numbersUpTo, rowsFrom, TriedRows, FillsRows};
+ghost use Rattle.hydrostatics.specs.Private.Table.{numbersUpTo, rowsFrom, TriedRows, FillsRows};
 use crate::MOST_ROWS;
 use crate::ROW_WIDTH;
 use crate::Row;
@@ -38,23 +38,6 @@ pub(crate) const NO_SUMS: Sums = Sums {
     sx: 0,
     q: 0,
     c: 0,
-};
-
-// The rows of a hull before they are written, and what is answered.
-struct Tried {
-    pub rows: [Row; MOST_ROWS],
-    pub answer: Rows,
-}
-
-// What stands where no row is made yet.
-const NO_ROW: Row = Row {
-    draft: 0,
-    displacement: 0,
-    lcb: 0,
-    kb: 0,
-    bm: 0,
-    km: 0,
-    area: 0,
 };
 
 // Both sides of a hull hold 2·s·d·S/24² mm³, and a cubic metre is 10⁹ mm³: s·d·S·density is so many times the displacement.
@@ -111,32 +94,26 @@ pub(crate) fn refused(number: u64, place: usize) -> Rows
 }
 
 // Every row made and tried, row by row upward.
-fn try_rows(p: Particulars, sums: [Sums; MOST_ROWS]) -> Tried
+fn try_rows(p: Particulars, sums: [Sums; MOST_ROWS]) -> Rows
     requires { ⌜ AllWithin p sums ⌝ }
     ensures { λ r. ⌜ TriedRows (rowsFrom p sums) (rowsOver (p .m)) r ⌝ }
 {
-    let count = p.m - 1;
-    let mut rows = [NO_ROW; MOST_ROWS];
+    let all = p.m - 1;
     let mut before: u64 = 0;
     let mut r: usize = 0;
-    while r < count {
+    while r < all {
         let row = row_from(p, r + FIRST_WATERLINE, sums[r]);
         let displacement = row.displacement;
-        let km = row.km;
         if displacement <= before {
-            let answer = refused(Refusal::DISPLACEMENT_NOT_RISING, r);
-            return Tried { rows, answer };
+            return refused(Refusal::DISPLACEMENT_NOT_RISING, r);
         }
-        if HIGHEST_METACENTRE < km {
-            let answer = refused(Refusal::METACENTRE_TOO_HIGH, r);
-            return Tried { rows, answer };
+        if HIGHEST_METACENTRE < row.km {
+            return refused(Refusal::METACENTRE_TOO_HIGH, r);
         }
-        rows[r] = row;
         before = displacement;
         r += 1;
     }
-    let answer = Rows::Made(count);
-    Tried { rows, answer }
+    Rows::Made(all)
 }
 
 // One row, into the front of the part of the table that it is lent.
@@ -153,16 +130,16 @@ fn write_row(row: Row, part: &mut [u64])
     part[6] = row.area;
 }
 
-// Each of the first `count` rows, into the part of the table that starts at seven times its number.
-fn write_rows(made: [Row; MOST_ROWS], count: usize, rows: &mut [u64])
-    requires { ⌜ (count ≤ mostRows) × (rowWidth * count ≤ length (now rows)) ⌝ }
-    ensures { λ _. ⌜ now (rows .exit) ≡ numbersUpTo (λ r. getD made r noRow) count ++ drop (rowWidth * count) (now (rows .entry)) ⌝ }
+// Each of the first `count` rows made, into the part of the table that starts at seven times its number.
+fn write_rows(p: Particulars, sums: [Sums; MOST_ROWS], count: usize, rows: &mut [u64])
+    requires { ⌜ AllWithin p sums × (count ≤ rowsOver (p .m)) × (rowWidth * count ≤ length (now rows)) ⌝ }
+    ensures { λ _. ⌜ now (rows .exit) ≡ numbersUpTo (rowsFrom p sums) count ++ drop (rowWidth * count) (now (rows .entry)) ⌝ }
 {
     let mut r: usize = 0;
     while r < count {
-        let row = made[r];
+        let made = row_from(p, r + FIRST_WATERLINE, sums[r]);
         let at = ROW_WIDTH * r;
-        write_row(row, &mut rows[at..]);
+        write_row(made, &mut rows[at..]);
         r += 1;
     }
 }
@@ -170,13 +147,11 @@ fn write_rows(made: [Row; MOST_ROWS], count: usize, rows: &mut [u64])
 // The rows of these sums: tried first, with the table untouched, and written once all have passed.
 pub(crate) fn fill_rows(p: Particulars, sums: [Sums; MOST_ROWS], rows: &mut [u64]) -> Rows
     requires { ⌜ AllWithin p sums × (rowWidth * rowsOver (p .m) ≤ length (now rows)) ⌝ }
-    ensures { λ r. ⌜ FillsRows (rowsFrom p sums) (rowsOver (p .m)) (now (rows .entry)) (now (rows .exit)) r ⌝ }
+    ensures { λ r. ⌜ FillsRows (rowsFrom p sums) (rowsOver (p .m)) r (now (rows .entry)) (now (rows .exit)) ⌝ }
 {
-    let tried = try_rows(p, sums);
-    let answer = tried.answer;
+    let answer = try_rows(p, sums);
     if let Rows::Made(count) = answer {
-        let made = tried.rows;
-        write_rows(made, count, rows);
+        write_rows(p, sums, count, rows);
     }
     answer
 }

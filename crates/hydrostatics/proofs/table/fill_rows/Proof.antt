@@ -1,4 +1,4 @@
--- Under a success the rows that were kept are written, and otherwise the table is not touched. Assumes nothing.
+-- Under a success the rows are written, and otherwise the table is not touched. Assumes nothing.
 use native.Mathlib.Omega.{arith}
 use borrow.Author.Needs.{needs}
 use Rattle.hydrostatics.proofs.Passed.{made-count, made-left, refused-left}
@@ -13,10 +13,10 @@ enum-known-answer c = search needs
 
 write-rows-requires : tie.Need-write-rows-requires
 write-rows-requires c κs =
-    let t = c .before .before .before .before .before in
-    let count = made-count (t .try-rows .ensures) (c .before .before .before .answer .given .1) in
+    let t = c .before .before .before .before in
+    let count = made-count (t .try-rows .ensures) (c .before .before .answer .given .1) in
     let given = t .before .before .pre in
-    (omega arith, omega arith)
+    (given .0, omega arith, omega arith)
 
 enum-told : tie.Need-enum-told
 enum-told c = search needs
@@ -26,7 +26,7 @@ same-length c = search needs
 
 returns : tie.Need-returns
 returns c =
-    let a = c .before .before .before .before .before .before in
+    let a = c .before .before .before .before .before in
     made-left (a .before .before .try-rows .ensures) (a .answer .given .1) (c .before .before .write-rows .ensures)
 
 returns-2 : tie.Need-returns-2

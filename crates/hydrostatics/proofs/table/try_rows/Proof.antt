@@ -1,6 +1,5 @@
--- The rows before row r have passed and are kept; a row that does not pass is the first. Assumes nothing.
+-- The rows before row r have passed; a row that does not pass is the first. Assumes nothing.
 use Prim.Native.Nat.{_-_, _≤_}
-use mathlib.Core.Path.{refl}
 use native.Mathlib.Omega.{arith}
 use borrow.Author.Needs.{needs}
 use Rattle.hydrostatics.specs.Private.Table.{rowsFrom}
@@ -9,16 +8,16 @@ use Rattle.hydrostatics.proofs.table.try_rows.Statement.{statement}
 use Rattle.hydrostatics.proofs.table.try_rows.Tie as tie
 
 abbrev Inv-loop : tie.InvT-loop
-Inv-loop p sums count rows₀ before₀ r₀ rows before r = (r ≤ count) × Passing (rowsFrom p sums) r before rows
+Inv-loop p sums all before₀ r₀ before r = (r ≤ all) × Passing (rowsFrom p sums) r before
 
 abbrev μ-loop : tie.MeasureT-loop
-μ-loop p sums count rows₀ before₀ r₀ rows before r = count - r
+μ-loop p sums all before₀ r₀ before r = all - r
 
-sub-count : tie.Need-sub-count Inv-loop μ-loop
-sub-count c = omega arith
+sub-all : tie.Need-sub-all Inv-loop μ-loop
+sub-all c = omega arith
 
 loop-holds : tie.Need-loop-holds Inv-loop μ-loop
-loop-holds c = (omega arith, passing-none refl)
+loop-holds c = (omega arith, passing-none)
 
 add-row-from : tie.Need-add-row-from Inv-loop μ-loop
 add-row-from c = omega arith
@@ -31,8 +30,7 @@ array-copy-out-row-from c = omega arith
 
 row-from-requires : tie.Need-row-from-requires Inv-loop μ-loop
 row-from-requires c κs =
-    let given = c .before .before .before .before .pre in
-    (given .particulars, given .each _ (omega arith))
+    let given = c .before .before .before .before .pre in (given .particulars, given .each _ (omega arith))
 
 refused-requires : tie.Need-refused-requires Inv-loop μ-loop
 refused-requires c κs = search needs
@@ -47,14 +45,8 @@ refused-requires-2 c κs = search needs
 
 returns-2 : tie.Need-returns-2 Inv-loop μ-loop
 returns-2 c =
-    let l = c .before .before .before .before .before .before in
-    refusal (too-high (l .loop .inv .1) (c .before .before .before .row-from .ensures) (c .before .before .if1 .left) (c .before .if2 .taken) _ (omega arith)) (c .refused2 .ensures)
-
-mul-rows : tie.Need-mul-rows Inv-loop μ-loop
-mul-rows c = omega arith
-
-array-set-from-rows : tie.Need-array-set-from-rows Inv-loop μ-loop
-array-set-from-rows c = omega arith
+    let e = c .before .before .before in
+    refusal (too-high (e .before .before .before .before .loop .inv .1) (e .before .row-from .ensures) (e .if1 .left) (c .before .if2 .taken) _ (omega arith)) (c .refused2 .ensures)
 
 add-r : tie.Need-add-r Inv-loop μ-loop
 add-r c = omega arith
@@ -64,8 +56,8 @@ loop-less c = omega arith
 
 loop-again : tie.Need-loop-again Inv-loop μ-loop
 loop-again c =
-    let l = c .before .before .before .before .before in
-    (omega arith, passing-more (l .loop .inv .1) (c .before .before .row-from .ensures) (c .before .if1 .left) (c .if2 .left) (omega arith))
+    let e = c .before .before in
+    (omega arith, passing-more (e .before .before .before .before .loop .inv .1) (e .before .row-from .ensures) (e .if1 .left) (c .if2 .left))
 
 returns-3 : tie.Need-returns-3 Inv-loop μ-loop
 returns-3 c = passing-all (c .before .loop .inv .1) (omega arith)
@@ -76,7 +68,7 @@ try-rows-spec =
     (tie.spec
     Inv-loop
     μ-loop
-    sub-count
+    sub-all
     loop-holds
     add-row-from
     mul-row-from
@@ -86,8 +78,6 @@ try-rows-spec =
     returns
     refused-requires-2
     returns-2
-    mul-rows
-    array-set-from-rows
     add-r
     loop-less
     loop-again

@@ -2,27 +2,34 @@
 use Prim.Native.Nat.{_-_, _≤_}
 use native.Mathlib.Omega.{arith}
 use borrow.Author.Needs.{needs}
-use lib.ListN.{getD, length-drop}
+use lib.ListN.{length-drop}
 use Rattle.arithmetic.proofs.Parts.{part-end}
-use Rattle.hydrostatics.specs.Private.Table.{noRow}
+use Rattle.hydrostatics.specs.Private.Table.{rowsFrom}
 use Rattle.hydrostatics.proofs.Writing.{Written, written-none, written-more, written-all}
 use Rattle.hydrostatics.proofs.table.write_rows.Statement.{statement}
 use Rattle.hydrostatics.proofs.table.write_rows.Tie as tie
 
 abbrev Inv-loop : tie.InvT-loop
-Inv-loop count rows₀ made r₀ rows r = (r ≤ count) × Written (λ r. getD made r noRow) rows₀ r rows
+Inv-loop p count rows₀ sums r₀ rows r = (r ≤ count) × Written (rowsFrom p sums) rows₀ r rows
 
 abbrev μ-loop : tie.MeasureT-loop
-μ-loop count rows₀ made r₀ rows r = count - r
+μ-loop p count rows₀ sums r₀ rows r = count - r
 
 loop-holds : tie.Need-loop-holds Inv-loop μ-loop
 loop-holds c = (omega arith, written-none)
 
-mul-row : tie.Need-mul-row Inv-loop μ-loop
-mul-row c = omega arith
+add-row-from : tie.Need-add-row-from Inv-loop μ-loop
+add-row-from c = omega arith
 
-array-copy-out-row : tie.Need-array-copy-out-row Inv-loop μ-loop
-array-copy-out-row c = omega arith
+mul-row-from : tie.Need-mul-row-from Inv-loop μ-loop
+mul-row-from c = omega arith
+
+array-copy-out-row-from : tie.Need-array-copy-out-row-from Inv-loop μ-loop
+array-copy-out-row-from c = omega arith
+
+row-from-requires : tie.Need-row-from-requires Inv-loop μ-loop
+row-from-requires c κs =
+    let given = c .before .before .before .before .pre .0 in (given .particulars, given .each _ (omega arith))
 
 mul-at : tie.Need-mul-at Inv-loop μ-loop
 mul-at c = omega arith
@@ -51,7 +58,8 @@ loop-less c = omega arith
 loop-again : tie.Need-loop-again Inv-loop μ-loop
 loop-again c =
     let w = c .before .before .write-row in
-    (omega arith, written-more (c .before .before .before .before .before .before .loop .inv .1) (w .last .1 .0) (omega arith) (w .ensures))
+    let made = c .before .before .before .before in
+    (omega arith, written-more (made .before .before .before .loop .inv .1) (made .row-from .ensures) (w .last .1 .0) (omega arith) (w .ensures))
 
 same-length : tie.Need-same-length Inv-loop μ-loop
 same-length c = search needs
@@ -66,8 +74,10 @@ write-rows-spec =
     Inv-loop
     μ-loop
     loop-holds
-    mul-row
-    array-copy-out-row
+    add-row-from
+    mul-row-from
+    array-copy-out-row-from
+    row-from-requires
     mul-at
     mul-write-row
     sub-write-row
