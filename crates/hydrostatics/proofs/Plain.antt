@@ -25,11 +25,11 @@ use Rattle.hydrostatics.specs.Private.Hull.{Filled}
 use Rattle.hydrostatics.specs.Private.Sections.{curveFrom, curveOf, momentOf, Covers, Summable, Balanced}
 
 -- ---- the two rules
-pub first-rule-from : (o : List ℕ) → curveFrom 2 o ≡ 8 * (getD o 0 0 + getD o 2 0) + 32 * getD o 1 0
+pub first-rule-from : (o : List ℕ) → curveFrom 2 o ≡ 8 * getD o 0 0 + 32 * getD o 1 0 + 8 * getD o 2 0
 unfolding curveFrom curve sumBy multiplier firstRule
 first-rule-from o = omega arith
 
-pub second-rule-from : (o : List ℕ) → curveFrom 3 o ≡ 9 * (getD o 0 0 + getD o 3 0) + 27 * (getD o 1 0 + getD o 2 0)
+pub second-rule-from : (o : List ℕ) → curveFrom 3 o ≡ 9 * getD o 0 0 + 27 * getD o 1 0 + 27 * getD o 2 0 + 9 * getD o 3 0
 unfolding curveFrom curve sumBy multiplier secondRule
 second-rule-from o = omega arith
 

@@ -43,7 +43,7 @@ fn first_rule(ordinates: &[u64]) -> u64
     requires { ⌜ Covers 2 (now ordinates) ⌝ }
     ensures { λ r. ⌜ r ≡ curveFrom 2 (now (ordinates .entry)) ⌝ }
 {
-    FIRST_END * (ordinates[0] + ordinates[2]) + FIRST_BETWEEN * ordinates[1]
+    FIRST_END * ordinates[0] + FIRST_BETWEEN * ordinates[1] + FIRST_END * ordinates[2]
 }
 
 // The second rule on the first three.
@@ -51,7 +51,10 @@ fn second_rule(ordinates: &[u64]) -> u64
     requires { ⌜ Covers 3 (now ordinates) ⌝ }
     ensures { λ r. ⌜ r ≡ curveFrom 3 (now (ordinates .entry)) ⌝ }
 {
-    SECOND_END * (ordinates[0] + ordinates[3]) + SECOND_BETWEEN * (ordinates[1] + ordinates[2])
+    SECOND_END * ordinates[0]
+        + SECOND_BETWEEN * ordinates[1]
+        + SECOND_BETWEEN * ordinates[2]
+        + SECOND_END * ordinates[3]
 }
 
 // The sum over the curve through these ordinates: three intervals by the second rule, two by the first; of more, the first rule takes

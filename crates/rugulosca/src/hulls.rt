@@ -4,7 +4,7 @@ ghost use mathlib.Core.List.{map};
 ghost use lib.IntN.{pos};
 ghost use lib.ListN.{length};
 ghost use Rattle.hydrostatics.specs.Display.{displayOf};
-ghost use Rattle.hydrostatics.specs.Promise.{countOf, tableAfter};
+ghost use Rattle.hydrostatics.specs.Promise.{paper, countOf, tableAfter};
 ghost use Rattle.hydrostatics.specs.Rows.{rowsOf};
 ghost use Rattle.hydrostatics.specs.Usable.{rowIn};
 ghost use Rattle.ranges.specs.Outside.{particularsOf};
@@ -30,6 +30,22 @@ pub(crate) fn particulars_of(five: &[u64; PARTICULAR_COUNT]) -> Particulars
     }
 }
 
+// Leaves how many rows there are, or the refusal's place.
+fn tell(answer: Rows, count: &mut usize, place: &mut usize) -> u64
+    ensures { λ r. ⌜ Tells (λ n. n) (paper answer) (now (count .entry)) (now (count .exit)) (now (place .entry)) (now (place .exit)) r ⌝ }
+{
+    match answer {
+        Rows::Made(made) => {
+            *count = made;
+            ANSWERED
+        }
+        Rows::Refused(refusal) => {
+            *place = refusal.place;
+            refusal.number
+        }
+    }
+}
+
 // The rows of a hull, and how many there are.
 #[no_mangle]
 pub extern "C" fn rugulosca_rows(
@@ -42,16 +58,28 @@ pub extern "C" fn rugulosca_rows(
     ensures { λ r. ⌜ Tells (λ n. n) (countOf (rowsOf (now («half_breadths» .entry)) (particularsOf (map pos (now (particulars .entry)))) (length (now (rows .entry))))) (now (count .entry)) (now (count .exit)) (now (place .entry)) (now (place .exit)) r ⌝ }
     ensures { λ _. ⌜ now (rows .exit) ≡ tableAfter (rowsOf (now («half_breadths» .entry)) (particularsOf (map pos (now (particulars .entry)))) (length (now (rows .entry)))) (now (rows .entry)) ⌝ }
 {
-    match hydrostatics::make_rows(half_breadths, particulars_of(particulars), rows) {
-        Rows::Made(made) => {
-            *count = made;
-            ANSWERED
-        }
-        Rows::Refused(refusal) => {
-            *place = refusal.place;
-            refusal.number
-        }
-    }
+    let answer = hydrostatics::make_rows(half_breadths, particulars_of(particulars), rows);
+    tell(answer, count, place)
+}
+
+// The same by the plain calculation: station areas first, and then along the length.
+#[no_mangle]
+pub extern "C" fn rugulosca_rows_by_sections(
+    half_breadths: &[u64],
+    particulars: &[u64; PARTICULAR_COUNT],
+    rows: &mut [u64],
+    count: &mut usize,
+    place: &mut usize,
+) -> u64
+    ensures { λ r. ⌜ Tells (λ n. n) (countOf (rowsOf (now («half_breadths» .entry)) (particularsOf (map pos (now (particulars .entry)))) (length (now (rows .entry))))) (now (count .entry)) (now (count .exit)) (now (place .entry)) (now (place .exit)) r ⌝ }
+    ensures { λ _. ⌜ now (rows .exit) ≡ tableAfter (rowsOf (now («half_breadths» .entry)) (particularsOf (map pos (now (particulars .entry)))) (length (now (rows .entry)))) (now (rows .entry)) ⌝ }
+{
+    let answer = hydrostatics::make_rows_by_sections(
+        half_breadths,
+        particulars_of(particulars),
+        rows,
+    );
+    tell(answer, count, place)
 }
 
 // Seven numbers as a row.

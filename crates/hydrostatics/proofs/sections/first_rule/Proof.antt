@@ -9,20 +9,23 @@ use Rattle.hydrostatics.proofs.sections.first_rule.Tie as tie
 shared-slice-read-result : tie.Need-shared-slice-read-result
 shared-slice-read-result c = search needs
 
+mul-result : tie.Need-mul-result
+mul-result c = let s = c .before in omega (arith, s .pre .fits, first-rule-from (s .args .ordinates .now))
+
 shared-slice-read-result-2 : tie.Need-shared-slice-read-result-2
 shared-slice-read-result-2 c = search needs
+
+mul-result-2 : tie.Need-mul-result-2
+mul-result-2 c = let s = c .before .before in omega (arith, s .pre .fits, first-rule-from (s .args .ordinates .now))
 
 add-result : tie.Need-add-result
 add-result c = let s = c .before .before in omega (arith, s .pre .fits, first-rule-from (s .args .ordinates .now))
 
-mul-result : tie.Need-mul-result
-mul-result c = let s = c .before .before in omega (arith, s .pre .fits, first-rule-from (s .args .ordinates .now))
-
 shared-slice-read-result-3 : tie.Need-shared-slice-read-result-3
 shared-slice-read-result-3 c = search needs
 
-mul-result-2 : tie.Need-mul-result-2
-mul-result-2 c = let s = c .before .before .before in omega (arith, s .pre .fits, first-rule-from (s .args .ordinates .now))
+mul-result-3 : tie.Need-mul-result-3
+mul-result-3 c = let s = c .before .before .before in omega (arith, s .pre .fits, first-rule-from (s .args .ordinates .now))
 
 add-result-2 : tie.Need-add-result-2
 add-result-2 c = let s = c .before .before .before in omega (arith, s .pre .fits, first-rule-from (s .args .ordinates .now))
@@ -35,10 +38,11 @@ first-rule-spec =
     tie.close
     (tie.spec
     shared-slice-read-result
-    shared-slice-read-result-2
-    add-result
     mul-result
-    shared-slice-read-result-3
+    shared-slice-read-result-2
     mul-result-2
+    add-result
+    shared-slice-read-result-3
+    mul-result-3
     add-result-2
     returns)
