@@ -12,9 +12,9 @@ mod texts;
 #[cfg(test)]
 mod trial_texts;
 
-use crate::calls::{Reading, Tally};
+use crate::calls::{Reading, Summary, Tally};
 use crate::peer;
-use crate::peer::ranges::{HALF_BREADTH, ITEM, PARTICULARS, ROW, TANK};
+use crate::peer::ranges::{half_breadth_count, HALF_BREADTH, ITEM, PARTICULARS, ROW, TANK};
 use crate::peer::tally::SLOTS;
 use crate::step::Step;
 use edges::{damage_number, damage_records, damage_size, edge};
@@ -56,6 +56,26 @@ pub struct FileNumbers {
     pub half_breadths: Vec<u64>,
     pub items: Vec<i64>,
     pub tanks: Vec<i64>,
+}
+
+impl FileNumbers {
+    /// What a reader says of a text and left in its tables.
+    pub fn of(summary: &Summary, half_breadths: &[u64], items: &[i64], tanks: &[i64]) -> FileNumbers {
+        FileNumbers {
+            particulars: summary.particulars,
+            half_breadths: half_breadths[..half_breadth_count(&summary.particulars)].to_vec(),
+            items: items[..summary.items as usize * ITEM.len()].to_vec(),
+            tanks: tanks[..summary.tanks as usize * TANK.len()].to_vec(),
+        }
+    }
+
+    /// The numbers of a text, where the own reader reads it.
+    pub fn of_text(text: &[u8]) -> Option<FileNumbers> {
+        let [half_breadths, items, tanks] = READ_ROOMS;
+        let (mut half_breadths, mut items, mut tanks) = (vec![0; half_breadths], vec![0; items], vec![0; tanks]);
+        let summary = peer::read(text, &mut half_breadths, &mut items, &mut tanks).ok()?;
+        Some(FileNumbers::of(&summary, &half_breadths, &items, &tanks))
+    }
 }
 
 impl Case {

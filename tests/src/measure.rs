@@ -2,6 +2,7 @@
 
 use crate::calculation::{Calculation, LIBRARY, PEER};
 use crate::calls::{Reading, Tally};
+use crate::generate::FileNumbers;
 use crate::peer::tally::SLOT_NUMBERS;
 use crate::samples::{largest_file, SAMPLE_FILE, SMALLEST_FILE};
 use std::hint::black_box;
@@ -112,17 +113,13 @@ impl Lent {
             "largest" => largest_file(),
             _ => return None,
         };
+        let FileNumbers { particulars, half_breadths, items, tanks } = FileNumbers::of_text(text.as_bytes())?;
         let mut tables = (vec![0; 861], vec![0; 128], vec![0; 128], vec![0; 133]);
-        let summary = (PEER.read)(text.as_bytes(), &mut tables.0, &mut tables.1, &mut tables.2).ok()?;
-        let [n, m, ..] = summary.particulars;
-        let half_breadths = tables.0[..((n + 1) * (m + 1)) as usize].to_vec();
-        let items = tables.1[..4 * summary.items as usize].to_vec();
-        let tanks = tables.2[..8 * summary.tanks as usize].to_vec();
-        let count = (PEER.rows)(&half_breadths, &summary.particulars, &mut tables.3).ok()?;
+        let count = (PEER.rows)(&half_breadths, &particulars, &mut tables.3).ok()?;
         let rows = tables.3[..7 * count].to_vec();
         (PEER.condition)(Reading::default(), &items, &tanks, &rows).ok()?;
         let lift = Lift::of(&items)?;
-        let (text, room, particulars) = (text.into_bytes(), vec![0; 16_384], summary.particulars);
+        let (text, room) = (text.into_bytes(), vec![0; 16_384]);
         Some(Lent { text, particulars, half_breadths, items, tanks, rows, lift, room, tables })
     }
 

@@ -2,6 +2,7 @@
 
 use super::observation::Observation;
 use crate::calculation::{Calculation, CALCULATIONS};
+use crate::calls::Summary;
 use crate::generate::{Call, FileNumbers};
 
 const FILE_ROOM: usize = 16_384;
@@ -26,12 +27,8 @@ pub fn examine(call: &Call, answered: &Observation) -> Result<(), String> {
 /// The numbers that a reader left in its tables.
 fn numbers_read(answered: &Observation) -> FileNumbers {
     let [n, m, s, d, density, items, tanks, ..] = answered.values;
-    FileNumbers {
-        particulars: [n, m, s, d, density],
-        half_breadths: answered.wholes[..((n + 1) * (m + 1)) as usize].to_vec(),
-        items: answered.items[..4 * items as usize].to_vec(),
-        tanks: answered.tanks[..8 * tanks as usize].to_vec(),
-    }
+    let summary = Summary { particulars: [n, m, s, d, density], items, tanks };
+    FileNumbers::of(&summary, &answered.wholes, &answered.items, &answered.tanks)
 }
 
 fn writes_and_reads_back(writer: &Calculation, numbers: &FileNumbers) -> Result<(), String> {
