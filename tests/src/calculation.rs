@@ -2,13 +2,13 @@
 
 #[cfg(linked)]
 use crate::calls;
-use crate::calls::{Condition, Reading, Refusal, Summary, Tally};
+use crate::calls::{Condition, Engine, Reading, Refusal, Summary, Tally};
 use crate::peer;
 
 type Report = fn(Reading, &[u8], &mut [u8]) -> Result<usize, Refusal>;
 type Read = fn(&[u8], &mut [u64], &mut [i64], &mut [i64]) -> Result<Summary, Refusal>;
 type Write = fn(&[u64; 5], &[u64], &[i64], &[i64], &mut [u8]) -> Result<usize, Refusal>;
-type Rows = fn(&[u64], &[u64; 5], &mut [u64]) -> Result<usize, Refusal>;
+type Rows = fn(Engine, &[u64], &[u64; 5], &mut [u64]) -> Result<usize, Refusal>;
 type Display = fn(&[u64; 7]) -> Result<[f64; 7], Refusal>;
 type Answer = fn(Reading, &[i64], &[i64], &[u64]) -> Result<Condition, Refusal>;
 type Load = fn(&mut Tally, usize, &[i64; 4]) -> Result<(), Refusal>;
@@ -36,7 +36,8 @@ pub const PEER: Calculation = Calculation {
     report: peer::report,
     read: peer::read,
     write: peer::write,
-    rows: peer::rows,
+    // it has one engine, whichever is asked for
+    rows: |_, half_breadths, particulars, rows| peer::rows(half_breadths, particulars, rows),
     display: peer::display,
     condition: peer::condition,
     load: peer::load,

@@ -1,4 +1,4 @@
-//! Rugulosca for Rust: the twelve calls of `include/rugulosca.h` over slices, with a refusal as the error.
+//! Rugulosca for Rust: the thirteen calls of `include/rugulosca.h` over slices, with a refusal as the error.
 //!
 //! This file stands alone: a program that links `librugulosca.a` can take it as it is. Nothing is allocated or kept,
 //! and no call has a condition on its numbers, lengths or bytes.
@@ -30,6 +30,20 @@ pub enum Reading {
 
 impl Reading {
     pub const BOTH: [Reading; 2] = [Reading::Lesser, Reading::StraightLine];
+}
+
+/// What works out the rows of a hull; what comes out is the same.
+#[derive(Clone, Copy, Debug, Default, PartialEq, Eq)]
+pub enum Engine {
+    /// Each waterline along the length first, then over the draft.
+    #[default]
+    Waterplanes,
+    /// Each station over the draft first, then along the length.
+    Sections,
+}
+
+impl Engine {
+    pub const BOTH: [Engine; 2] = [Engine::Waterplanes, Engine::Sections];
 }
 
 /// How the vessel lies; heeled carries the tangent of the angle.
@@ -72,9 +86,11 @@ impl Tally {
 
 /// The header's declarations, for those who want the numbers as C sees them.
 pub mod raw {
-    use super::Reading;
+    use super::{Engine, Reading};
 
     pub type Report = unsafe extern "C" fn(*const u8, usize, *mut u8, usize, *mut usize, *mut usize) -> u64;
+    pub type Rows =
+        unsafe extern "C" fn(*const u64, usize, *const [u64; 5], *mut u64, usize, *mut usize, *mut usize) -> u64;
     pub type Condition = unsafe extern "C" fn(
         *const i64,
         usize,
@@ -93,6 +109,14 @@ pub mod raw {
         match reading {
             Reading::Lesser => rugulosca_report,
             Reading::StraightLine => rugulosca_report_straight_line,
+        }
+    }
+
+    /// The call that makes rows by this engine.
+    pub fn rows(engine: Engine) -> Rows {
+        match engine {
+            Engine::Waterplanes => rugulosca_rows,
+            Engine::Sections => rugulosca_rows_by_sections,
         }
     }
 
@@ -151,6 +175,16 @@ pub mod raw {
         ) -> u64;
 
         pub fn rugulosca_rows(
+            half_breadths: *const u64,
+            half_breadths_length: usize,
+            particulars: *const [u64; 5],
+            rows: *mut u64,
+            rows_length: usize,
+            count: *mut usize,
+            place: *mut usize,
+        ) -> u64;
+
+        pub fn rugulosca_rows_by_sections(
             half_breadths: *const u64,
             half_breadths_length: usize,
             particulars: *const [u64; 5],
@@ -290,11 +324,12 @@ pub fn write(
 }
 
 /// The rows of a hull into the lent table, seven numbers each; answers how many rows.
-pub fn rows(half_breadths: &[u64], particulars: &[u64; 5], rows: &mut [u64]) -> Result<usize, Refusal> {
+pub fn rows(engine: Engine, half_breadths: &[u64], particulars: &[u64; 5], rows: &mut [u64]) -> Result<usize, Refusal> {
+    let call = raw::rows(engine);
     let (mut count, mut place) = (0, 0);
     // SAFETY: as in `report`.
     let number = unsafe {
-        raw::rugulosca_rows(
+        call(
             half_breadths.as_ptr(),
             half_breadths.len(),
             particulars,

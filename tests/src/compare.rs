@@ -1,5 +1,6 @@
 //! Compares the library with the own calculation on generated cases, and counts what came out of them.
 
+mod engines;
 mod history;
 mod observation;
 mod outcomes;
@@ -42,7 +43,10 @@ pub fn replay(seed: u64, number: u64) -> bool {
     let case = Case::generate(seed, number);
     println!("{case:?}");
     match &case {
-        Case::Call(call) => call.by_straight_line().iter().chain([call]).for_each(show),
+        Case::Call(call) => {
+            call.by_straight_line().iter().chain([call]).for_each(show);
+            call.rows_by_both_engines().iter().flatten().for_each(show);
+        }
         Case::History(steps) => {
             for (call, list) in history::calls(steps) {
                 show(&call);
@@ -63,7 +67,8 @@ fn show(call: &Call) {
     println!("peer: {:?}", before.by_calculation(&PEER, call));
 }
 
-/// Examines each call of a case; the steps of a history must also be the list's, and the two readings of KM must fit.
+/// Examines each call of a case; the steps of a history must also be the list's, the two readings of KM must fit, and
+/// both engines must make the same of a hull.
 fn examine(case: &Case, wrapped: bool, outcomes: &mut Outcomes) -> Result<(), String> {
     match case {
         Case::Call(call) => {
@@ -71,6 +76,11 @@ fn examine(case: &Case, wrapped: bool, outcomes: &mut Outcomes) -> Result<(), St
             let mut outcome = Outcome::of(call, &library);
             if let Some(other) = call.by_straight_line() {
                 outcome.readings = readings::examine(call, &library, &examine_call(&other, wrapped)?)?;
+            }
+            if let Some([waterplanes, sections]) = call.rows_by_both_engines() {
+                let by_sections = examine_call(&sections, wrapped)?;
+                outcome.engines = engines::examine(&examine_call(&waterplanes, wrapped)?, &by_sections)?;
+                outcomes.add(&Outcome::of(&sections, &by_sections));
             }
             outcomes.add(&outcome);
         }

@@ -12,7 +12,7 @@ mod texts;
 #[cfg(test)]
 mod trial_texts;
 
-use crate::calls::{Reading, Summary, Tally};
+use crate::calls::{Engine, Reading, Summary, Tally};
 use crate::peer;
 use crate::peer::ranges::{half_breadth_count, HALF_BREADTH, ITEM, PARTICULARS, ROW, TANK};
 use crate::peer::tally::SLOTS;
@@ -42,7 +42,7 @@ pub enum Call {
     Report { reading: Reading, text: Vec<u8>, room: usize },
     Read { text: Vec<u8>, rooms: [usize; 3] },
     Write { numbers: FileNumbers, room: usize },
-    Rows { particulars: [u64; 5], half_breadths: Vec<u64>, room: usize },
+    Rows { engine: Engine, particulars: [u64; 5], half_breadths: Vec<u64>, room: usize },
     Display { row: [u64; 7] },
     Condition { reading: Reading, items: Vec<i64>, tanks: Vec<i64>, rows: Vec<u64> },
     Step { tally: Box<Tally>, step: Step },
@@ -104,6 +104,18 @@ impl Call {
             Call::Condition { items, tanks, rows, .. } => Some(Call::Condition { reading, items, tanks, rows }),
             _ => None,
         }
+    }
+
+    /// The rows of the call's hull by each engine: of its own, or of a file's, where its text is read.
+    pub fn rows_by_both_engines(&self) -> Option<[Call; 2]> {
+        let of_file = |FileNumbers { particulars, half_breadths, .. }| (particulars, half_breadths, ROW_ROOM);
+        let (particulars, half_breadths, room) = match self {
+            Call::Report { text, .. } | Call::Read { text, .. } => of_file(FileNumbers::of_text(text)?),
+            Call::Write { numbers, .. } => of_file(numbers.clone()),
+            Call::Rows { particulars, half_breadths, room, .. } => (*particulars, half_breadths.clone(), *room),
+            _ => return None,
+        };
+        Some(Engine::BOTH.map(|engine| Call::Rows { engine, particulars, half_breadths: half_breadths.clone(), room }))
     }
 }
 
@@ -213,7 +225,7 @@ fn rows(random: &mut Random) -> Call {
             _ => room = random.pick(&[0, exact - 1, exact - ROW.len(), room]),
         }
     }
-    Call::Rows { particulars, half_breadths, room }
+    Call::Rows { engine: Engine::default(), particulars, half_breadths, room }
 }
 
 fn display(random: &mut Random) -> Call {

@@ -24,7 +24,7 @@ use std::process::ExitCode;
 
 const USAGE: &str = "usage: outside compare SEED CASES | replay SEED CASE | vectors FOLDER | measure
        outside repeat library|peer CALL smallest|sample|largest TIMES
-       CALL: read|rows|condition|report|write|load|discharge|aboard";
+       CALL: read|rows|sections|condition|report|write|load|discharge|aboard";
 
 fn main() -> ExitCode {
     let arguments: Vec<String> = env::args().skip(1).collect();

@@ -1,7 +1,7 @@
 //! Times the library beside the own calculation, call by call, on three files.
 
 use crate::calculation::{Calculation, LIBRARY, PEER};
-use crate::calls::{Reading, Tally};
+use crate::calls::{Engine, Reading, Tally};
 use crate::generate::FileNumbers;
 use crate::peer::tally::SLOT_NUMBERS;
 use crate::samples::{largest_file, SAMPLE_FILE, SMALLEST_FILE};
@@ -10,7 +10,7 @@ use std::time::{Duration, Instant};
 
 const ROUNDS: usize = 40;
 const ROUND_TIME: Duration = Duration::from_millis(5);
-const CALLS: [&str; 8] = ["read", "rows", "condition", "report", "write", "load", "discharge", "aboard"];
+const CALLS: [&str; 9] = ["read", "rows", "sections", "condition", "report", "write", "load", "discharge", "aboard"];
 const FILES: [&str; 3] = ["smallest", "sample", "largest"];
 
 /// Prints the times of every call on every file.
@@ -115,7 +115,7 @@ impl Lent {
         };
         let FileNumbers { particulars, half_breadths, items, tanks } = FileNumbers::of_text(text.as_bytes())?;
         let mut tables = (vec![0; 861], vec![0; 128], vec![0; 128], vec![0; 133]);
-        let count = (PEER.rows)(&half_breadths, &particulars, &mut tables.3).ok()?;
+        let count = (PEER.rows)(Engine::default(), &half_breadths, &particulars, &mut tables.3).ok()?;
         let rows = tables.3[..7 * count].to_vec();
         (PEER.condition)(Reading::default(), &items, &tanks, &rows).ok()?;
         let lift = Lift::of(&items)?;
@@ -134,11 +134,15 @@ impl Lent {
                 black_box((&read_half_breadths, &read_items, &read_tanks));
                 answer.is_ok()
             }),
-            "rows" => repeatedly(times, || {
-                let answer = (calculation.rows)(black_box(half_breadths), black_box(particulars), made_rows);
-                black_box(&made_rows);
-                answer.is_ok()
-            }),
+            "rows" | "sections" => {
+                let engine = if call == "rows" { Engine::Waterplanes } else { Engine::Sections };
+                repeatedly(times, || {
+                    let answer =
+                        (calculation.rows)(engine, black_box(half_breadths), black_box(particulars), made_rows);
+                    black_box(&made_rows);
+                    answer.is_ok()
+                })
+            }
             "condition" => repeatedly(times, || {
                 black_box((calculation.condition)(reading, black_box(items), black_box(tanks), black_box(rows))).is_ok()
             }),

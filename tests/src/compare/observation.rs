@@ -1,7 +1,7 @@
 //! All that can be seen of a call: its number, place and values, and every lent table and room afterwards.
 
 use crate::calculation::Calculation;
-use crate::calls::{raw, Condition, Heel, Reading, Refusal, Tally};
+use crate::calls::{raw, Condition, Engine, Heel, Reading, Refusal, Tally};
 use crate::generate::{pattern, Call, FileNumbers};
 use crate::peer::History;
 use crate::step::Step;
@@ -59,7 +59,7 @@ impl Observation {
             Call::Report { reading, text, .. } => self.raw_report(*reading, text),
             Call::Read { text, .. } => self.raw_read(text),
             Call::Write { numbers, .. } => self.raw_write(numbers),
-            Call::Rows { particulars, half_breadths, .. } => self.raw_rows(particulars, half_breadths),
+            Call::Rows { engine, particulars, half_breadths, .. } => self.raw_rows(*engine, particulars, half_breadths),
             Call::Display { row } => self.raw_display(row),
             Call::Condition { reading, items, tanks, rows } => self.raw_condition(*reading, items, tanks, rows),
             Call::Step { step, .. } => self.raw_step(step),
@@ -118,10 +118,11 @@ impl Observation {
         number
     }
 
-    fn raw_rows(&mut self, particulars: &[u64; 5], half_breadths: &[u64]) -> u64 {
+    fn raw_rows(&mut self, engine: Engine, particulars: &[u64; 5], half_breadths: &[u64]) -> u64 {
+        let call = raw::rows(engine);
         let mut count = self.values[0] as usize;
         let number = unsafe {
-            raw::rugulosca_rows(
+            call(
                 half_breadths.as_ptr(),
                 half_breadths.len(),
                 particulars,
@@ -216,8 +217,8 @@ impl Observation {
                 let answer = (calculation.write)(particulars, half_breadths, items, tanks, &mut self.room);
                 self.note(answer, |length, values| values[0] = length as u64);
             }
-            Call::Rows { particulars, half_breadths, .. } => {
-                let answer = (calculation.rows)(half_breadths, particulars, &mut self.wholes);
+            Call::Rows { engine, particulars, half_breadths, .. } => {
+                let answer = (calculation.rows)(*engine, half_breadths, particulars, &mut self.wholes);
                 self.note(answer, |count, values| values[0] = count as u64);
             }
             Call::Display { row } => {

@@ -1,10 +1,11 @@
 //! Counts of outcomes by call, and what the papers let come out that never did.
 
+use super::engines::ENGINES;
 use super::observation::Observation;
 use super::readings::{flotation, FLOTATIONS, READINGS};
 use super::settled::{Settled, HEELS};
 use super::spellings::{in_text, in_token, IN_TEXTS, IN_TOKENS};
-use crate::calls::{Refusal, Tally};
+use crate::calls::{Engine, Refusal, Tally};
 use crate::generate::Call;
 use crate::peer::condition::PRESSED_UP;
 use crate::peer::ranges::{ITEM, TANK};
@@ -13,18 +14,23 @@ use crate::step::Step;
 use std::cmp::Ordering;
 use std::collections::BTreeSet;
 
-const CALLS: [&str; 10] =
-    ["report", "read", "write", "rows", "display", "condition", "load", "discharge", "shift", "aboard"];
+/// Sections are counted of every hull, whichever call it stands in.
+const CALLS: [&str; 11] =
+    ["report", "read", "write", "rows", "sections", "display", "condition", "load", "discharge", "shift", "aboard"];
 const REPORT: usize = 0;
-const CONDITION: usize = 5;
-const ABOARD: usize = 9;
+const READ: usize = 1;
+const WRITE: usize = 2;
+const ROWS: usize = 3;
+const CONDITION: usize = 6;
+const ABOARD: usize = 10;
 const NO_NUMBER: usize = 2;
 /// The refusals the papers let each call give; the report's own is 14, the others are its sheet's E lines.
-const ALLOWED: [&[usize]; 10] = [
+const ALLOWED: [&[usize]; CALLS.len()] = [
     &[1, 2, 3, 4, 5, 6, 8, 9, 11, 12, 13, 14],
     &[1, 2, 3, 4, 5, 6, 7],
     &[4, 7, 14],
-    &[4, 7, 8, 9],
+    ROWS_ALLOWED,
+    ROWS_ALLOWED,
     &[4],
     &[4, 7, 10, 11, 12, 13],
     &[4, 15, 16, 22],
@@ -32,13 +38,15 @@ const ALLOWED: [&[usize]; 10] = [
     &[4, 15, 17, 22],
     &[4, 7, 10, 11, 12, 13, 22],
 ];
+const ROWS_ALLOWED: &[usize] = &[4, 7, 8, 9];
 /// Places that must be seen: of every table whose size a call may refuse, of every number of a step, and of the first
 /// slot, the last and the first beyond.
-const PLACES: [&[(usize, usize)]; 10] = [
+const PLACES: [&[(usize, usize)]; CALLS.len()] = [
     &[],
     &[(7, 0), (7, 1), (7, 2)],
     &[(7, 0), (7, 1), (7, 2)],
-    &[(7, 0), (7, 3)],
+    ROWS_PLACES,
+    ROWS_PLACES,
     &[],
     &[(7, 1), (7, 2), (7, 3)],
     &[(4, 0), (4, 1), (4, 2), (4, 3), (15, 32), (16, 0), (16, 31), (22, 0)],
@@ -46,6 +54,7 @@ const PLACES: [&[(usize, usize)]; 10] = [
     &[(4, 1), (4, 2), (4, 3), (15, 32), (17, 0), (17, 31), (22, 0)],
     &[(7, 2), (7, 3), (22, 0)],
 ];
+const ROWS_PLACES: &[(usize, usize)] = &[(7, 0), (7, 3)];
 /// By number; those without a name are no call's.
 const REFUSALS: [&str; 23] = [
     "answered",
@@ -75,12 +84,14 @@ const REFUSALS: [&str; 23] = [
 const VERDICTS: [&str; 2] = ["does not pass", "passes"];
 const SETTLING_CALLS: [usize; 3] = [REPORT, CONDITION, ABOARD];
 const CALLS_BY_READING: [usize; 2] = [REPORT, CONDITION];
+const CALLS_WITH_HULL: [usize; 4] = [REPORT, READ, WRITE, ROWS];
 const FILLINGS: [&str; 5] = ["empty", "slack", "at 98 per cent", "above it", "full"];
 const STATES: [&str; 4] = ["empty", "full", "with another mark than 1", "with something in an empty slot"];
 
 /// What came out of one call: 0 or the refusal's number, how the vessel lies and where it floats where that was found,
-/// what the other reading of KM made of it, how many of the condition's tanks are filled how, in which states the tally
-/// was that a step was answered on, and what editors left in the text that was read or in its token that is no number.
+/// what the other reading of KM made of it, what both engines made of its hull, how many of the condition's tanks are
+/// filled how, in which states the tally was that a step was answered on, and what editors left in the text that was read
+/// or in its token that is no number.
 pub struct Outcome {
     call: usize,
     refusal: usize,
@@ -88,6 +99,7 @@ pub struct Outcome {
     lies: Option<(usize, usize)>,
     flotation: [bool; FLOTATIONS.len()],
     pub readings: [bool; READINGS.len()],
+    pub engines: [bool; ENGINES.len()],
     fillings: [u64; FILLINGS.len()],
     states: [bool; STATES.len()],
     in_text: [bool; IN_TEXTS.len()],
@@ -103,6 +115,7 @@ impl Outcome {
             lies: None,
             flotation: Default::default(),
             readings: Default::default(),
+            engines: Default::default(),
             fillings: Default::default(),
             states: Default::default(),
             in_text: Default::default(),
@@ -137,14 +150,15 @@ impl Outcome {
 fn index(call: &Call) -> usize {
     match call {
         Call::Report { .. } => REPORT,
-        Call::Read { .. } => 1,
-        Call::Write { .. } => 2,
-        Call::Rows { .. } => 3,
-        Call::Display { .. } => 4,
+        Call::Read { .. } => READ,
+        Call::Write { .. } => WRITE,
+        Call::Rows { engine: Engine::Waterplanes, .. } => ROWS,
+        Call::Rows { engine: Engine::Sections, .. } => 4,
+        Call::Display { .. } => 5,
         Call::Condition { .. } => CONDITION,
-        Call::Step { step: Step::Load { .. }, .. } => 6,
-        Call::Step { step: Step::Discharge { .. }, .. } => 7,
-        Call::Step { step: Step::Shift { .. }, .. } => 8,
+        Call::Step { step: Step::Load { .. }, .. } => 7,
+        Call::Step { step: Step::Discharge { .. }, .. } => 8,
+        Call::Step { step: Step::Shift { .. }, .. } => 9,
         Call::Aboard { .. } => ABOARD,
     }
 }
@@ -176,6 +190,7 @@ pub struct Outcomes {
     verdicts: [[u64; VERDICTS.len()]; CALLS.len()],
     flotations: [[u64; FLOTATIONS.len()]; CALLS.len()],
     readings: [[u64; READINGS.len()]; CALLS.len()],
+    engines: [[u64; ENGINES.len()]; CALLS.len()],
     /// Those of the places to be seen that were.
     places: BTreeSet<(usize, usize, usize)>,
     fillings: [u64; FILLINGS.len()],
@@ -197,6 +212,7 @@ impl Outcomes {
         }
         count(&mut self.flotations[call], outcome.flotation);
         count(&mut self.readings[call], outcome.readings);
+        count(&mut self.engines[call], outcome.engines);
         for (all, here) in self.fillings.iter_mut().zip(outcome.fillings) {
             *all += here;
         }
@@ -212,6 +228,7 @@ impl Outcomes {
         print_group(&VERDICTS, &self.verdicts);
         print_group(&FLOTATIONS, &self.flotations);
         print_group(&READINGS, &self.readings);
+        print_group(&ENGINES, &self.engines);
         println!("tanks of conditions: {}", listed(&FILLINGS, &self.fillings));
         println!("tallies of answered steps: {}", listed(&STATES, &self.states));
         println!("texts read with {}", listed(&IN_TEXTS, &self.in_texts));
@@ -245,6 +262,9 @@ impl Outcomes {
         }
         for call in CALLS_BY_READING {
             missing.extend(never(CALLS[call], &READINGS, &self.readings[call]));
+        }
+        for call in CALLS_WITH_HULL {
+            missing.extend(never(CALLS[call], &ENGINES, &self.engines[call]));
         }
         missing.extend(never("tank", &FILLINGS, &self.fillings));
         missing.extend(never("tally", &STATES, &self.states));
