@@ -1,7 +1,9 @@
 /* The smallest program around the library: the sheet of the file on standard input, on standard output. Before it, on a
- * barge of the program's own, a tally, which is what a crane panel does for a lift, and a load by both readings of KM. */
+ * barge of the program's own, its rows by both engines, a tally, which is what a crane panel does for a lift, and a load
+ * by both readings of KM. */
 #include <assert.h>
 #include <stdio.h>
+#include <string.h>
 
 #include "../include/rugulosca.h"
 
@@ -11,6 +13,21 @@ static const uint64_t rows[21] = {
     1500, 60000, 5000, 750,  888,  1638, 40000000,
     2000, 80000, 5000, 1000, 666,  1666, 40000000,
 };
+
+/* Whether the call that is given makes these rows, from the half-breadths of five stations at five waterlines. */
+static int makes_rows(uint64_t (*rows_of)(const uint64_t *, size_t, const uint64_t *, uint64_t *, size_t, size_t *,
+                                          size_t *)) {
+    const uint64_t particulars[5] = {4, 4, 2500, 500, 1000};
+    uint64_t half_breadths[25];
+    uint64_t made[RUGULOSCA_ROW_ROOM];
+    size_t count = 0;
+    size_t place;
+    for (size_t i = 0; i < 25; i++) {
+        half_breadths[i] = 2000;
+    }
+    return rows_of(half_breadths, 25, particulars, made, RUGULOSCA_ROW_ROOM, &count, &place) == 0 && count == 3 &&
+           memcmp(made, rows, sizeof rows) == 0;
+}
 
 static const int64_t no_tanks[1] = {0};
 
@@ -66,6 +83,8 @@ int main(void) {
     size_t count = 0;
     size_t place = 0;
     size_t read;
+    assert(makes_rows(rugulosca_rows));
+    assert(makes_rows(rugulosca_rows_by_sections));
     lift();
     assert(gm_by(rugulosca_condition) == 638);
     assert(gm_by(rugulosca_condition_straight_line) == 735);
