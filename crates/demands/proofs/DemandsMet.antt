@@ -5,11 +5,14 @@ use mathlib.Core.Path.{_≡_, refl, sym, ap, subst₂, _∙_}
 use mathlib.Core.List.{List}
 use Prim.Native.Nat.{ℕ}
 use lib.IntN.{ℤ, pos}
+use Rattle.simpson.proofs.Front.{curve-two, curve-three, curve-off}
 use Rattle.simpson.proofs.Moments.{curve-exact, answer-exact}
 use Rattle.offsets.proofs.Calls.{write-then-read}
 use Rattle.hydrostatics.specs.Hull.{halfBreadth}
 use Rattle.hydrostatics.specs.Row.{waterlineOf}
-use Rattle.hydrostatics.proofs.Exchange.{Q-is}
+use Rattle.hydrostatics.specs.Private.Sections.{areaAt, momentAt}
+use Rattle.hydrostatics.proofs.Engines.{engines-agree}
+use Rattle.hydrostatics.proofs.Exchange.{Q-is, S-along, Sz-along, Sx-along}
 use Rattle.hydrostatics.proofs.MadeRows.{made-rows, made-area}
 use Rattle.loading.specs.Beside.{Alike, NotAbove}
 use Rattle.loading.specs.Demand.{LoweredTables, NoWorse}
@@ -30,6 +33,7 @@ use Rattle.rugulosca.proofs.Apart.{apart}
 use Rattle.demands.specs.Conditioned.{Conditioned, IsCondition}
 use Rattle.demands.specs.Demands.{Demand1, Demand2, Demand3, Demands}
 use Rattle.demands.specs.RunningTally.{RunningTally}
+use Rattle.demands.specs.SecondCalculation.{SecondCalculation}
 use Rattle.demands.specs.TwoReadings.{TwoReadings}
 use Rattle.demands.proofs.Answering.{sheet-answers, reader-answers, writer-answers, rows-answer, display-answers, condition-answers, totals-answer, step-answers, aboard-answers}
 
@@ -101,5 +105,21 @@ two-readings = record {
   lesser-is-never-above = λ {items} {tanks} {rows} k l. subst₂ (Alike NotAbove) (sym (k .answer-is)) (sym (l .answer-is)) (readings-beside items tanks rows);
 }
 
+second-calculation : SecondCalculation
+unfolding areaAt momentAt
+second-calculation = record {
+  station-areas-first = λ halfBreadths p k. (S-along halfBreadths p k, Sz-along halfBreadths p k, Sx-along halfBreadths p k);
+  two-off-the-front = curve-off;
+  down-to-two-or-three = λ y. (curve-two y, curve-three y);
+  engines-agree = engines-agree;
+}
+
 pub demands-met : Demands
-demands-met = record { demand-1 = demand-1; demand-2 = demand-2; demand-3 = demand-3; running-tally = running-tally; two-readings = two-readings }
+demands-met = record {
+  demand-1 = demand-1;
+  demand-2 = demand-2;
+  demand-3 = demand-3;
+  running-tally = running-tally;
+  two-readings = two-readings;
+  second-calculation = second-calculation;
+}

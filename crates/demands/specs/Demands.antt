@@ -59,6 +59,7 @@ use Rattle.rugulosca.specs.Told.{Tells, Apart}
 use Rattle.demands.specs.Answering.{AnswersOrRefuses}
 use Rattle.demands.specs.Conditioned.{Conditioned, IsCondition}
 use Rattle.demands.specs.RunningTally.{RunningTally}
+use Rattle.demands.specs.SecondCalculation.{SecondCalculation}
 use Rattle.demands.specs.TwoReadings.{TwoReadings}
 
 -- "1. Every file and every lent table gets either its answer or one numbered refusal, and the work always ends. The public calls test everything themselves.
@@ -129,3 +130,4 @@ pub record Demands : Type 1 where
   pub demand-3 : Demand3
   pub running-tally : RunningTally
   pub two-readings : TwoReadings
+  pub second-calculation : SecondCalculation

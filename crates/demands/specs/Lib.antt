@@ -1,6 +1,7 @@
--- The customer's three demands, the words that they are said in, and what the running tally and the readings of KM are asked.
+-- The customer's three demands, the words that they are said in, and what the running tally, the readings of KM and the second calculation are asked.
 pub mod Answering
 pub mod Conditioned
 pub mod RunningTally
 pub mod TwoReadings
+pub mod SecondCalculation
 pub mod Demands

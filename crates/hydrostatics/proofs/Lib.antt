@@ -21,3 +21,4 @@ pub mod MadeRows
 pub mod Unique
 pub mod Shown
 pub mod Numbered
+pub mod Engines

@@ -9,46 +9,37 @@
 use mathlib.Core.Path.{_≡_, refl, sym, ap, subst, _∙_}
 use mathlib.Core.List.{List}
 use mathlib.Core.Logic.{⊎-elim}
-use Prim.Native.Nat.{ℕ, zero, suc, _+_, _-_, _*_, _^_, _≤_, _<_}
+use Prim.Native.Nat.{ℕ, _+_, _-_, _*_, _^_, _≤_, _<_}
 use native.Mathlib.Nat.{eq-or-lt-of-le}
 use native.Mathlib.Omega.{arith}
 use lib.ListN.{length, getD, take, drop, length-drop}
 use lib.Seq.{length-take-le, getD-drop, getD-take}
-use Rattle.arithmetic.specs.Sum.{sumBy}
 use Rattle.ranges.specs.Fields.{rangeOf, most}
-use Rattle.simpson.specs.Multipliers.{firstRule, secondRule, multiplier}
 use Rattle.simpson.specs.Curve.{curve}
 use Rattle.simpson.proofs.Curves.{curve-same}
-use Rattle.simpson.proofs.Front.{curve-front}
+use Rattle.simpson.proofs.Front.{curve-two, curve-three, curve-off}
 use Rattle.simpson.proofs.Moments.{ordinate-le}
 use Rattle.hydrostatics.specs.Private.Hull.{Filled}
 use Rattle.hydrostatics.specs.Private.Sections.{curveFrom, curveOf, momentOf, Covers, Summable, Balanced}
 
--- ---- the two rules
+-- ---- the two rules, and two intervals off the front
 pub first-rule-from : (o : List ℕ) → curveFrom 2 o ≡ 8 * getD o 0 0 + 32 * getD o 1 0 + 8 * getD o 2 0
-unfolding curveFrom curve sumBy multiplier firstRule
-first-rule-from o = omega arith
+unfolding curveFrom
+first-rule-from o = curve-two (λ i. getD o i 0)
 
 pub second-rule-from : (o : List ℕ) → curveFrom 3 o ≡ 9 * getD o 0 0 + 27 * getD o 1 0 + 27 * getD o 2 0 + 9 * getD o 3 0
-unfolding curveFrom curve sumBy multiplier secondRule
-second-rule-from o = omega arith
-
--- ---- two intervals off the front
-front-joined : (n : ℕ) (o : List ℕ) → curveFrom (suc (suc (suc (suc n)))) o ≡ curveFrom 2 o + curveFrom (suc (suc n)) (drop 2 o)
 unfolding curveFrom
-front-joined n o =
-    let y : ℕ → ℕ = λ i. getD o i 0 in
-    let onward : (i : ℕ) → suc (suc i) ≡ 2 + i = λ i. omega arith in
-    let rest : curve (suc (suc n)) (λ i. y (suc (suc i))) ≡ curve (suc (suc n)) (λ i. getD (drop 2 o) i 0) =
-    curve-same (suc (suc n)) _ _ (λ i l. ap y (onward i) ∙ sym (getD-drop 2 o i 0)) in
-    omega (arith, curve-front n y, rest, first-rule-from o)
+second-rule-from o = curve-three (λ i. getD o i 0)
 
 pub front-off : (o : List ℕ) → 5 ≤ length o → curveOf o ≡ curveFrom 2 o + curveOf (drop 2 o)
+unfolding curveFrom
 front-off o h =
-    let n = length o - 5 in
-    let whole : length o - 1 ≡ suc (suc (suc (suc n))) = omega arith in
-    let left : length (drop 2 o) - 1 ≡ suc (suc n) = omega (arith, length-drop 2 o) in
-    ap (λ k. curveFrom k o) whole ∙ front-joined n o ∙ ap (λ k. curveFrom 2 o + curveFrom k (drop 2 o)) (sym left)
+    let y : ℕ → ℕ = λ i. getD o i 0 in
+    let left : length o - 1 - 2 ≡ length (drop 2 o) - 1 = omega (arith, length-drop 2 o) in
+    let onward : (i : ℕ) → i + 2 ≡ 2 + i = λ i. omega arith in
+    curve-off (length o - 1) y (omega arith)
+    ∙ ap (λ n. curve 2 y + curve n (λ i. y (i + 2))) left
+    ∙ ap (λ s. curve 2 y + s) (curve-same (length (drop 2 o) - 1) _ _ (λ i l. ap y (onward i) ∙ sym (getD-drop 2 o i 0)))
 
 -- ---- of a curve that can be summed
 module _ {o : List ℕ} (can : Summable o) where

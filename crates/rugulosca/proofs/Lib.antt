@@ -1,4 +1,5 @@
 -- The laws behind the calls for other languages.
 pub mod Telling
 pub mod Apart
+pub mod Engines
 pub mod Panels
