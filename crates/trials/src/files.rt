@@ -17,7 +17,7 @@ const FEWEST: u64 = 85;
 const FEWEST_BY_STRAIGHT_LINE: u64 = 72;
 
 // One byte more than a file may have.
-const LONGEST_INPUT: usize = ranges::LONGEST_FILE + 1;
+pub(crate) const LONGEST_INPUT: usize = ranges::LONGEST_FILE + 1;
 
 // What trying a number shows: whether it has a file, whether that one's sheet differs from the answer beside it, and whether what is
 // read of it, written and read again, is changed.
@@ -142,7 +142,7 @@ fn at_most(n: usize, most: usize) -> usize
 }
 
 // How many half-breadths a hull has, and no more than there is room for.
-fn points_of(p: Particulars) -> usize
+pub(crate) fn points_of(p: Particulars) -> usize
     ensures { λ r. ⌜ r ≤ roomForHalfBreadths ⌝ }
 {
     let stations = at_most(p.n, ranges::HALF_BREADTH_ROOM) + 1;
@@ -211,7 +211,7 @@ fn starts(front: &[i64], table: &[i64]) -> bool {
 }
 
 // The same for whole numbers.
-fn starts_whole(front: &[u64], table: &[u64]) -> bool {
+pub(crate) fn starts_whole(front: &[u64], table: &[u64]) -> bool {
     if table.len() < front.len() {
         return false;
     }
