@@ -1,12 +1,12 @@
 -- The proof of the cycle of calls {curve_sum}: two intervals off the front are the first rule's, and the rest are fewer by two. Assumes nothing.
 use Prim.Native.Nat.{ℕ, _+_, _-_, _<_, _≤_}
-use mathlib.Core.Path.{sym, ap, ap₂, _∙_}
+use mathlib.Core.Path.{_≡_, sym, ap, ap₂, subst, _∙_}
 use native.Mathlib.Omega.{arith}
 use lib.ListN.{length, length-drop}
 use borrow.Fn.Kinds.{In}
 use borrow.Fn.PlainCycle.{Measures, is, falls, and}
 use Rattle.arithmetic.proofs.Parts.{part-end}
-use Rattle.hydrostatics.specs.Private.Sections.{curveFrom, curveOf}
+use Rattle.hydrostatics.specs.Private.Sections.{curveFrom, curveOf, Summable}
 use Rattle.hydrostatics.proofs.Plain.{front-off, all-covered, front-covered, rest-summable}
 use Rattle.hydrostatics.proofs.sections.curve_sum.Reads as reads
 use Rattle.hydrostatics.proofs.sections.curve_sum.Kinds as kinds
@@ -35,16 +35,22 @@ module _ (t : ℕ) where
   sub-intervals c = omega (arith, c .before .pre .1 .enough)
 
   second-rule-requires : lts.Need-second-rule-requires claims at-t reads.Post
-  second-rule-requires c κs = all-covered (c .before .before .pre .1) (c .if1 .taken)
+  second-rule-requires c κs = all-covered (c .before .before .pre .1) (omega (arith, c .if1 .taken))
 
   returns : lts.Need-returns claims at-t reads.Post
-  returns c = c .second-rule .ensures ∙ ap (λ n. curveFrom n (c .before .before .before .args .ordinates .now)) (sym (c .before .if1 .taken))
+  returns c =
+      let o = c .before .before .before .args .ordinates .now in
+      let three : 3 ≡ length o - 1 = omega (arith, c .before .if1 .taken) in
+      c .second-rule .ensures ∙ ap (λ n. curveFrom n o) three
 
   first-rule-requires : lts.Need-first-rule-requires claims at-t reads.Post
   first-rule-requires c κs = front-covered (c .before .before .pre .1) (c .if1 .left)
 
   returns-2 : lts.Need-returns-2 claims at-t reads.Post
-  returns-2 c = c .before .first-rule .ensures ∙ ap (λ n. curveFrom n (c .before .before .before .before .args .ordinates .now)) (sym (c .if2 .taken))
+  returns-2 c =
+      let o = c .before .before .before .before .args .ordinates .now in
+      let two : 2 ≡ length o - 1 = omega (arith, c .if2 .taken) in
+      c .before .first-rule .ensures ∙ ap (λ n. curveFrom n o) two
 
   -- neither two intervals nor three
   more : (c : lts.Else2 claims at-t reads.Post) → 5 ≤ length (c .before .before .before .before .args .ordinates .now)
@@ -64,7 +70,7 @@ module _ (t : ℕ) where
       let s = c .before .before .before .before .before in
       let o = s .args .ordinates .now in
       let rest = part-end 2 o in
-      (omega (arith, ap length rest, length-drop 2 o, more (c .before), s .pre .0), rw rest (rest-summable (s .pre .1) (more (c .before))))
+      (omega (arith, ap length rest, length-drop 2 o, more (c .before), s .pre .0), subst Summable (sym rest) (rest-summable (s .pre .1) (more (c .before))))
 
   returns-3 : lts.Need-returns-3 claims at-t reads.Post
   returns-3 c =
