@@ -146,27 +146,6 @@ fn sums_at(
     }
 }
 
-// The five sums of every row, from what is kept of the hull.
-fn sums_upward(
-    table: &[u64],
-    u: &[u64; MOST_STATIONS],
-    q: &[u64; MOST_WATERLINES],
-    x: &[u64; MOST_WATERLINES],
-    p: Particulars,
-) -> [Sums; MOST_ROWS]
-    requires { ⌜ (Given (now table) p (now u)) × (Kept (now table) p (now q) (now x)) ⌝ }
-    ensures { λ r. ⌜ MakesSums (now (table .entry)) p r ⌝ }
-{
-    let count = p.m - 1;
-    let mut sums = [NO_SUMS; MOST_ROWS];
-    let mut r: usize = 0;
-    while r < count {
-        sums[r] = sums_at(table, u, q, x, p, r + FIRST_WATERLINE);
-        r += 1;
-    }
-    sums
-}
-
 // The five sums of every row of a hull in range.
 pub(crate) fn hull_sums(table: &[u64], p: Particulars) -> [Sums; MOST_ROWS]
     requires { ⌜ InRange (now table) p ⌝ }
@@ -176,5 +155,12 @@ pub(crate) fn hull_sums(table: &[u64], p: Particulars) -> [Sums; MOST_ROWS]
     let planes = waterplane_sums(table, &u, p);
     let q = planes.q;
     let x = planes.x;
-    sums_upward(table, &u, &q, &x, p)
+    let count = p.m - 1;
+    let mut sums = [NO_SUMS; MOST_ROWS];
+    let mut r: usize = 0;
+    while r < count {
+        sums[r] = sums_at(table, &u, &q, &x, p, r + FIRST_WATERLINE);
+        r += 1;
+    }
+    sums
 }
