@@ -14,6 +14,7 @@ waterlineOf r = r + 2
 abbrev pub sumsAt : List ℕ → Particulars → ℕ → Sums
 sumsAt table p k = record { sum = S table p k; sz = Sz table p k; sx = Sx table p k; q = Q table p k; c = C table p k }
 
+-- the row of waterline k, of any five sums
 unfoldable pub rowFrom : Particulars → ℕ → Sums → Row
 rowFrom p k sums = record {
   draft = p .d * k;
@@ -25,6 +26,7 @@ rowFrom p k sums = record {
   area = p .s * sums .q / 12;
 }
 
+-- and of a hull's
 abbrev pub rowAt : List ℕ → Particulars → ℕ → Row
 rowAt table p k = rowFrom p k (sumsAt table p k)
 
