@@ -1,6 +1,7 @@
 -- A station up to a waterline, as it stands in the table, and the row's sums along the stations.
 --     station-area, station-moment            the sums over the station's part of the table are its area and height moment
 --     station-summable, station-balanced      and can be made
+--     station-long, station-last              how long the part is, and that its last half-breadth is that at the waterline
 --     all-along                               what is filled in for each station
 --     Total                                   the sum over a curve of the stations, which 64 bits hold
 --     total-S, total-Sz, total-Sx, total-Q, total-C       the row's five
@@ -11,8 +12,8 @@ use mathlib.Core.Path.{_≡_, sym, ap, _∙_}
 use mathlib.Core.List.{List}
 use Prim.Native.Nat.{ℕ, _+_, _-_, _*_, _^_, _≤_, _<_}
 use native.Mathlib.Omega.{arith}
-use lib.ListN.{length, take, drop, length-drop}
-use lib.Seq.{getD-drop}
+use lib.ListN.{length, getD, take, drop, length-drop}
+use lib.Seq.{length-take-le, getD-drop, getD-take}
 use Rattle.ranges.specs.Fields.{rangeOf, most}
 use Rattle.ranges.specs.declared.Particulars.{Particulars}
 use Rattle.simpson.specs.Curve.{curve}
@@ -56,6 +57,14 @@ module _ {table : List ℕ} {p : Particulars} (hull : InRange table p) {i k : �
   pub station-moment : momentOf (take count (drop (i * (p .m + 1)) table)) ≡ momentAt table p k i
   unfolding keel
   station-moment = filled-moment stands (omega arith) long ∙ moment-is
+
+  pub station-long : length (take count (drop (i * (p .m + 1)) table)) ≡ k + 1
+  unfolding keel
+  station-long = length-take-le count (drop (i * (p .m + 1)) table) long ∙ e
+
+  pub station-last : getD (take count (drop (i * (p .m + 1)) table)) k 0 ≡ halfBreadth table p i k
+  unfolding keel
+  station-last = getD-take count (drop (i * (p .m + 1)) table) k 0 (omega arith) ∙ stands .at k (omega arith)
 
   pub station-summable : Summable (take count (drop (i * (p .m + 1)) table))
   unfolding keel

@@ -1,5 +1,4 @@
 // The rows of a hull, by waterplanes and by sections, and their display.
-mod hull;
 mod sections;
 mod table;
 mod waterplanes;

@@ -4,10 +4,9 @@ ghost use mathlib.Core.Path.{_≡_};
 ghost use Prim.Native.Nat.{_≤_};
 ghost use Rattle.hydrostatics.specs.Row.{sumsAt, waterlineOf};
 ghost use Rattle.hydrostatics.specs.Private.Hull.{InRange};
-ghost use Rattle.hydrostatics.specs.Private.Sections.{curveFrom, curveOf, momentOf, Covers, Summable, Balanced, SectionOf, SectionsOf, WaterplaneOf};
+ghost use Rattle.hydrostatics.specs.Private.Sections.{curveFrom, curveOf, momentOf, Covers, Summable, Balanced, SectionOf, SectionsOf};
 ghost use Rattle.hydrostatics.specs.Private.Sums.{MakesSums};
 use crate::MOST_ROWS;
-use crate::hull::half_breadth_at;
 use crate::table::FIRST_WATERLINE;
 use crate::table::NO_SUMS;
 use crate::table::Sums;
@@ -20,20 +19,18 @@ use simpson::SECOND_BETWEEN;
 use simpson::SECOND_END;
 use simpson::SECOND_INTERVALS;
 
-// A station up to a waterline: the sum over its half-breadths, and that of each times its waterline's number.
+// A station up to a waterline: the sum over its half-breadths, that of each times its waterline's number, and the half-breadth at
+// the waterline itself.
 struct Section {
     pub area: u64,
     pub moment: u64,
+    pub half_breadth: u64,
 }
 
-// Every station so.
+// Every station so, and the cubes of the half-breadths at the waterline.
 struct Sections {
     pub areas: [u64; MOST_STATIONS],
     pub moments: [u64; MOST_STATIONS],
-}
-
-// The half-breadths along a waterline, station by station, and their cubes.
-struct Waterplane {
     pub half_breadths: [u64; MOST_STATIONS],
     pub cubes: [u64; MOST_STATIONS],
 }
@@ -98,7 +95,12 @@ fn section_at(table: &[u64], p: Particulars, i: usize, k: usize) -> Section
     let station = &table[keel..keel + k + 1];
     let area = curve_sum(station);
     let moment = moment_sum(station);
-    Section { area, moment }
+    let half_breadth = station[k];
+    Section {
+        area,
+        moment,
+        half_breadth,
+    }
 }
 
 // Every station up to waterline k.
@@ -109,38 +111,27 @@ fn sections_at(table: &[u64], p: Particulars, k: usize) -> Sections
     let n = p.n;
     let mut areas = [0u64; MOST_STATIONS];
     let mut moments = [0u64; MOST_STATIONS];
-    let mut i: usize = 0;
-    while i <= n {
-        let section = section_at(table, p, i, k);
-        areas[i] = section.area;
-        moments[i] = section.moment;
-        i += 1;
-    }
-    Sections { areas, moments }
-}
-
-// Along waterline k.
-fn waterplane_at(table: &[u64], p: Particulars, k: usize) -> Waterplane
-    requires { ⌜ (InRange (now table) p) × (k ≤ p .m) ⌝ }
-    ensures { λ r. ⌜ WaterplaneOf (now (table .entry)) p k r ⌝ }
-{
-    let n = p.n;
     let mut half_breadths = [0u64; MOST_STATIONS];
     let mut cubes = [0u64; MOST_STATIONS];
     let mut i: usize = 0;
     while i <= n {
-        let y = half_breadth_at(table, p, i, k);
+        let section = section_at(table, p, i, k);
+        let y = section.half_breadth;
+        areas[i] = section.area;
+        moments[i] = section.moment;
         half_breadths[i] = y;
         cubes[i] = y * y * y;
         i += 1;
     }
-    Waterplane {
+    Sections {
+        areas,
+        moments,
         half_breadths,
         cubes,
     }
 }
 
-// The five sums of the row of waterline k: the sections' along the length, and those along the waterline itself.
+// The five sums of the row of waterline k: along the length, the sections' and the waterline's own.
 fn sums_at(table: &[u64], p: Particulars, k: usize) -> Sums
     requires { ⌜ (InRange (now table) p) × (waterlineOf 0 ≤ k) × (k ≤ p .m) ⌝ }
     ensures { λ r. ⌜ r ≡ sumsAt (now (table .entry)) p k ⌝ }
@@ -149,9 +140,8 @@ fn sums_at(table: &[u64], p: Particulars, k: usize) -> Sums
     let sections = sections_at(table, p, k);
     let areas = sections.areas;
     let moments = sections.moments;
-    let waterplane = waterplane_at(table, p, k);
-    let half_breadths = waterplane.half_breadths;
-    let cubes = waterplane.cubes;
+    let half_breadths = sections.half_breadths;
+    let cubes = sections.cubes;
     Sums {
         sum: curve_sum(&areas[..stations]),
         sz: curve_sum(&moments[..stations]),

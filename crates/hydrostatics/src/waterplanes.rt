@@ -4,13 +4,12 @@ ghost use mathlib.Core.Path.{_≡_};
 ghost use Prim.Native.Nat.{_+_, _≤_};
 ghost use Rattle.ranges.specs.Fields.{rangeOf, most};
 ghost use Rattle.simpson.specs.Multipliers.{multiplier};
-ghost use Rattle.hydrostatics.specs.Hull.{C};
+ghost use Rattle.hydrostatics.specs.Hull.{halfBreadth, C};
 ghost use Rattle.hydrostatics.specs.Row.{sumsAt};
 ghost use Rattle.hydrostatics.specs.Private.Hull.{Filled, InRange};
 ghost use Rattle.hydrostatics.specs.Private.Sums.{MakesSums};
 ghost use Rattle.hydrostatics.specs.Private.Waterplanes.{Given, WaterlineOf, Kept, Small, Over};
 use crate::MOST_ROWS;
-use crate::hull::half_breadth_at;
 use crate::table::FIRST_WATERLINE;
 use crate::table::NO_SUMS;
 use crate::table::Sums;
@@ -49,6 +48,14 @@ fn station_multipliers(n: usize) -> [u64; MOST_STATIONS]
         i += 1;
     }
     u
+}
+
+// The half-breadth at station i, waterline j: station by station from aft, each from the keel up.
+fn half_breadth_at(table: &[u64], p: Particulars, i: usize, j: usize) -> u64
+    requires { ⌜ (InRange (now table) p) × (i ≤ p .n) × (j ≤ p .m) ⌝ }
+    ensures { λ r. ⌜ r ≡ halfBreadth (now (table .entry)) p i j ⌝ }
+{
+    table[i * (p.m + 1) + j]
 }
 
 // The sums over waterline j.

@@ -10,7 +10,6 @@ use Rattle.hydrostatics.specs.Hull.{halfBreadth}
 use Rattle.hydrostatics.specs.Private.Hull.{Filled}
 use Rattle.hydrostatics.specs.declared.sections.Section.{Section}
 use Rattle.hydrostatics.specs.declared.sections.Sections.{Sections}
-use Rattle.hydrostatics.specs.declared.sections.Waterplane.{Waterplane}
 
 -- the sum over the curve through the first ordinates, over n intervals; through all of them; and through each times its place
 unfoldable pub curveFrom : ℕ → List ℕ → ℕ
@@ -58,11 +57,10 @@ module _ (table : List ℕ) (p : Particulars) where
   pub record SectionOf (i k : ℕ) (section : Section) : Type 0 where
     pub area-is : section .area ≡ areaAt k i
     pub moment-is : section .moment ≡ momentAt k i
+    pub half-breadth-is : section .«half_breadth» ≡ halfBreadth table p i k
 
   pub record SectionsOf (k : ℕ) (sections : Sections) : Type 0 where
     pub areas-are : Along (areaAt k) (p .n + 1) (sections .areas)
     pub moments-are : Along (momentAt k) (p .n + 1) (sections .moments)
-
-  pub record WaterplaneOf (k : ℕ) (waterplane : Waterplane) : Type 0 where
-    pub half-breadths-are : Along (λ i. halfBreadth table p i k) (p .n + 1) (waterplane .«half_breadths»)
-    pub cubes-are : Along (λ i. halfBreadth table p i k ^ 3) (p .n + 1) (waterplane .cubes)
+    pub half-breadths-are : Along (λ i. halfBreadth table p i k) (p .n + 1) (sections .«half_breadths»)
+    pub cubes-are : Along (λ i. halfBreadth table p i k ^ 3) (p .n + 1) (sections .cubes)

@@ -4,7 +4,7 @@ use mathlib.Core.Path.{_∙_}
 use native.Mathlib.Omega.{arith}
 use borrow.Author.Needs.{needs}
 use Rattle.hydrostatics.proofs.Limits.{place-within}
-use Rattle.hydrostatics.proofs.Stations.{station-area, station-moment, station-summable, station-balanced}
+use Rattle.hydrostatics.proofs.Stations.{station-area, station-moment, station-summable, station-balanced, station-long, station-last}
 use Rattle.hydrostatics.proofs.sections.section_at.Statement.{statement}
 use Rattle.hydrostatics.proofs.sections.section_at.Tie as tie
 
@@ -44,14 +44,24 @@ moment-sum-requires c κs =
     let keel = s .args .i * (s .args .p .m + 1) in
     station-balanced (s .pre .0) (s .pre .1) (s .pre .2) (s .pre .3) (keel + s .args .k + 1 - keel) (omega arith)
 
+mul-half-breadth : tie.Need-mul-half-breadth
+mul-half-breadth c = let given = c .before .before .before .before .before .pre in omega (arith, given .0 .particulars .m-most)
+
+shared-slice-read-half-breadth : tie.Need-shared-slice-read-half-breadth
+shared-slice-read-half-breadth c =
+    let s = c .before .before .before .before .before .before in
+    let keel = s .args .i * (s .args .p .m + 1) in
+    omega (arith, station-long (s .pre .0) (s .pre .1) (s .pre .2) (s .pre .3) (keel + s .args .k + 1 - keel) (omega arith))
+
 returns : tie.Need-returns
 returns c =
-    let s = c .before .before .before .before .before in
+    let s = c .before .before .before .before .before .before in
     let keel = s .args .i * (s .args .p .m + 1) in
     let count = keel + s .args .k + 1 - keel in
     record {
-      area-is = c .before .curve-sum .ensures ∙ station-area (s .pre .0) (s .pre .1) (s .pre .2) (s .pre .3) count (omega arith);
-      moment-is = c .moment-sum .ensures ∙ station-moment (s .pre .0) (s .pre .1) (s .pre .2) (s .pre .3) count (omega arith);
+      area-is = c .before .before .curve-sum .ensures ∙ station-area (s .pre .0) (s .pre .1) (s .pre .2) (s .pre .3) count (omega arith);
+      moment-is = c .before .moment-sum .ensures ∙ station-moment (s .pre .0) (s .pre .1) (s .pre .2) (s .pre .3) count (omega arith);
+      half-breadth-is = station-last (s .pre .0) (s .pre .1) (s .pre .2) (s .pre .3) count (omega arith);
     }
 
 pub section-at-spec : {M : Type 1} → statement M
@@ -68,4 +78,6 @@ section-at-spec =
     part-station-end
     curve-sum-requires
     moment-sum-requires
+    mul-half-breadth
+    shared-slice-read-half-breadth
     returns)

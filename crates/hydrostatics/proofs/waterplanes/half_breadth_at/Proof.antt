@@ -4,8 +4,8 @@ use native.Mathlib.Omega.{arith}
 use borrow.Author.Needs.{needs}
 use Rattle.hydrostatics.specs.Hull.{halfBreadth}
 use Rattle.hydrostatics.proofs.Limits.{place-within}
-use Rattle.hydrostatics.proofs.hull.half_breadth_at.Statement.{statement}
-use Rattle.hydrostatics.proofs.hull.half_breadth_at.Tie as tie
+use Rattle.hydrostatics.proofs.waterplanes.half_breadth_at.Statement.{statement}
+use Rattle.hydrostatics.proofs.waterplanes.half_breadth_at.Tie as tie
 
 add-result : tie.Need-add-result
 add-result c = search needs
