@@ -11,9 +11,9 @@ use Rattle.offsets.proofs.Calls.{write-then-read}
 use Rattle.hydrostatics.specs.Hull.{halfBreadth}
 use Rattle.hydrostatics.specs.Row.{waterlineOf}
 use Rattle.hydrostatics.specs.Private.Sections.{areaAt, momentAt}
-use Rattle.hydrostatics.proofs.Engines.{engines-agree}
 use Rattle.hydrostatics.proofs.Exchange.{Q-is, S-along, Sz-along, Sx-along}
 use Rattle.hydrostatics.proofs.MadeRows.{made-rows, made-area}
+use Rattle.hydrostatics.proofs.Unique.{makes-rows-unique}
 use Rattle.loading.specs.Beside.{Alike, NotAbove}
 use Rattle.loading.specs.Demand.{LoweredTables, NoWorse}
 use Rattle.loading.specs.declared.Answer.{Answer}
@@ -111,7 +111,7 @@ second-calculation = record {
   station-areas-first = λ halfBreadths p k. (S-along halfBreadths p k, Sz-along halfBreadths p k, Sx-along halfBreadths p k);
   two-off-the-front = curve-off;
   down-to-two-or-three = λ y. (curve-two y, curve-three y);
-  engines-agree = engines-agree;
+  engines-agree = makes-rows-unique;
 }
 
 pub demands-met : Demands

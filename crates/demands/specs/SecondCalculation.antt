@@ -26,6 +26,7 @@ pub record SecondCalculation : Type 0 where
   pub two-off-the-front : (n : ℕ) (y : ℕ → ℕ) → 4 ≤ n → curve n y ≡ curve 2 y + curve (n - 2) (λ i. y (i + 2))
   pub down-to-two-or-three : (y : ℕ → ℕ)
       → (curve 2 y ≡ 8 * y 0 + 32 * y 1 + 8 * y 2) × (curve 3 y ≡ 9 * y 0 + 27 * y 1 + 27 * y 2 + 9 * y 3)
-  -- "Its seven numbers and its refusals equal the first calculation's for every hull."
+  -- "Its seven numbers and its refusals equal the first calculation's for every hull." Both calls make this one promise; said of the calls themselves:
+  -- `engines-agree` of hydrostatics, proofs/Engines.
   pub engines-agree : {halfBreadths : List ℕ} {p : Particulars} {rows after after′ : List ℕ} {answer answer′ : Rows} → MakesRows halfBreadths p rows after answer → MakesRows halfBreadths p rows after′ answer′
       → (answer ≡ answer′) × (after ≡ after′)
