@@ -80,8 +80,9 @@ uint64_t rugulosca_rows(const uint64_t *half_breadths, size_t half_breadths_leng
                         uint64_t *rows, size_t rows_length,
                         size_t *count, size_t *place);
 
-/* The same rows by a plain second calculation, as a surveyor works them by hand: each station's area and height moment first,
- * and then along the length. All that it answers, refuses and leaves is what `rugulosca_rows` does; it takes longer. */
+/* The same rows by a plain second calculation, as a surveyor works them by hand: each station's area and height moment
+ * first, and then along the length. All that it answers, refuses and leaves is what `rugulosca_rows` does; it takes
+ * longer. */
 uint64_t rugulosca_rows_by_sections(const uint64_t *half_breadths, size_t half_breadths_length,
                                     const uint64_t particulars[5],
                                     uint64_t *rows, size_t rows_length,
