@@ -23,11 +23,13 @@ use Rattle.arithmetic.specs.Choice.{if_then_else_}
 use Rattle.arithmetic.proofs.Choice.{chosen}
 use Rattle.arithmetic.proofs.Tests.{both, never}
 use Rattle.ranges.specs.Fields.{Range, _to_, ±_, within, least, most, rangeOf, particulars, halfBreadth}
-use Rattle.ranges.specs.Outside.{outsideFrom, firstOutside, numbersOf}
+use Rattle.ranges.specs.Limits.{limits}
+use Rattle.ranges.specs.Outside.{outsideFrom, firstOutside, numbersOf, badParticular}
 use Rattle.ranges.specs.Private.InRange.{ParticularsInRange, HalfBreadthsInRange}
 use Rattle.ranges.specs.Sides.{sidesOf}
 use Rattle.ranges.specs.Sizes.{wholeRecords}
 use Rattle.ranges.specs.declared.Particulars.{Particulars}
+use Rattle.ranges.proofs.Hulls.{none-bad, not-too-long}
 use Rattle.ranges.proofs.Outside.{outside-le}
 
 -- ---- sides
@@ -124,9 +126,10 @@ half-breadths-in-range table e =
     let at = all-within halfBreadth (map pos table) (omega (arith, length-map table pos)) k (omega (arith, length-map table pos)) in
     within-whole (rangeOf 5) (getD table k 0) (rw (mod-one, List·getD-map pos table k 0) at at) .1)
 
-pub particulars-in-range : (p : Particulars) → length particulars ≤ firstOutside particulars (numbersOf p) → ParticularsInRange p
+pub particulars-in-range : (p : Particulars) → length particulars ≤ badParticular p → ParticularsInRange p
 particulars-in-range p e =
-    let at = all-within particulars (numbersOf p) e in
+    let none = none-bad limits p e in
+    let at = all-within particulars (numbersOf p) (none .0) in
     let n = within-whole (rangeOf 0) (p .n) (at 0 (omega arith)) in
     let m = within-whole (rangeOf 1) (p .m) (at 1 (omega arith)) in
     let s = within-whole (rangeOf 2) (p .s) (at 2 (omega arith)) in
@@ -143,6 +146,7 @@ particulars-in-range p e =
       d-most = d .1;
       density-least = density .0;
       density-most = density .1;
+      length-most = not-too-long limits p (none .1);
     }
 
 -- ---- a count of whole records

@@ -5,10 +5,11 @@ use mathlib.Core.List.{List, [], _∷_, _++_}
 use lib.Dec.{leb}
 use lib.IntN.{ℤ, pos, negsuc}
 use lib.ListN.{getD}
+use Rattle.ranges.specs.Limits.{Limits, limits}
 
 infix 80 _to_
 infix 80 ±_
--- "2..40" is 2 to 40; "−10,000..10,000" is ± 10_000
+-- "3..20" is 3 to 20; "−10,000..10,000" is ± 10_000
 pub data Range : Type 0 where
   _to_ : ℕ → ℕ → Range
   ±_ : ℕ → Range
@@ -29,8 +30,15 @@ within (± b) (pos n) = leb n b
 within (± b) (negsuc n) = leb (suc n) b
 
 -- n intervals of length; m intervals of draft; s mm between stations; d mm between waterlines; water density, kg/m³
+abbrev pub particularsBy : Limits → List Range
+particularsBy allowed = 2 to allowed .mostIntervals ∷ 3 to 20 ∷ 50 to 2_500 ∷ 10 to 500 ∷ 900 to 1_100 ∷ []
+
 abbrev pub particulars : List Range
-particulars = 2 to 40 ∷ 3 to 20 ∷ 50 to 2_500 ∷ 10 to 500 ∷ 900 to 1_100 ∷ []
+particulars = particularsBy limits
+
+-- s is number 2 of them, from 0
+abbrev pub spacing : ℕ
+spacing = 2
 
 -- mm
 abbrev pub halfBreadth : List Range

@@ -1,11 +1,13 @@
 -- Where the first number stands that is out of its range.
-use Prim.Native.Nat.{ℕ, _+_, _%_}
+use Prim.Native.Nat.{ℕ, _+_, _*_, _%_}
+use mathlib.Core.Bool.{Bool}
 use mathlib.Core.List.{List, [], _∷_, map}
 use lib.Dec.{ltb}
 use lib.IntN.{ℤ, pos, natAbs}
 use lib.ListN.{length, getD}
 use Rattle.arithmetic.specs.Choice.{if_then_else_}
-use Rattle.ranges.specs.Fields.{Range, _to_, within}
+use Rattle.ranges.specs.Fields.{Range, _to_, within, particulars, particularsBy, spacing}
+use Rattle.ranges.specs.Limits.{Limits, limits}
 use Rattle.ranges.specs.declared.Particulars.{Particulars}
 
 -- The place of the first number out of range, in a table of records whose first field is number `place` of the table; the place after the last where all are in range.
@@ -37,3 +39,18 @@ particularsOf five = record {
   d = natAbs (getD five 3 (pos 0));
   density = natAbs (getD five 4 (pos 0));
 }
+
+-- "n·s at most 100,000"
+unfoldable pub tooLong : Limits → Particulars → Bool
+tooLong allowed p = ltb (allowed .longestHull) (p .n * p .s)
+
+-- The place of the first particular to refuse: one out of its range; then "n·s too large is 4 at s, after all five ranges"; their number where there is none.
+unfoldable pub badParticularBy : Limits → Particulars → ℕ
+badParticularBy allowed p =
+    let outside = firstOutside (particularsBy allowed) (numbersOf p) in
+    if ltb outside (length particulars) then outside
+    else if tooLong allowed p then spacing
+    else length particulars
+
+abbrev pub badParticular : Particulars → ℕ
+badParticular = badParticularBy limits

@@ -1,7 +1,7 @@
 -- "Refusals by number", by name.
 use Prim.Native.Nat.{ℕ}
 
--- file over 16,384 bytes
+-- file over 32,768 bytes
 abbrev pub fileTooLong : ℕ
 fileTooLong = 1
 
@@ -80,15 +80,15 @@ firstRefusal = fileTooLong
 abbrev pub lastRefusal : ℕ
 lastRefusal = tallyUnsound
 
--- "Place of 4: .. 0..4 particulars, 5+i half-breadths, 1,000+i items, 2,000+i tanks": where the places of each table begin
+-- "Place of 4: .. 0..4 particulars, 5+i half-breadths", "3,000+i" items, "4,000+i" tanks: where the places of each table begin
 abbrev pub placeOfHalfBreadths : ℕ
 placeOfHalfBreadths = 5
 
 abbrev pub placeOfItems : ℕ
-placeOfItems = 1_000
+placeOfItems = 3_000
 
 abbrev pub placeOfTanks : ℕ
-placeOfTanks = 2_000
+placeOfTanks = 4_000
 
 -- "7: 0 half-breadths, 1 items, 2 tanks, 3 rows"
 abbrev pub halfBreadthTable : ℕ

@@ -4,10 +4,11 @@ use mathlib.Core.Bool.{Bool, _&&_}
 use lib.Dec.{leb, eqb}
 use lib.ListN.{length}
 use Rattle.ranges.specs.Fields.{rangeOf, least, most, item, tank, rowRanges}
+use Rattle.ranges.specs.Limits.{Limits, limits}
 
--- "Text of at most 16,384 bytes."
+-- "Text of at most 32,768 bytes."
 abbrev pub longestFile : ℕ
-longestFile = 16_384
+longestFile = limits .longestFile
 
 -- "Items 0..32", "Tanks 0..16": "the counts of items and tanks count records"
 abbrev pub mostItems : ℕ
@@ -40,9 +41,12 @@ mostRows = rowsOver (most (rangeOf 1))
 abbrev pub pointsOf : ℕ → ℕ → ℕ
 pointsOf n m = (n + 1) * (m + 1)
 
--- the reader's room, which holds the numbers of any file: 861, 128 and 128
+-- the reader's room, which holds the numbers of any file: 1,701, 128 and 128
+abbrev pub roomForHalfBreadthsBy : Limits → ℕ
+roomForHalfBreadthsBy allowed = pointsOf (allowed .mostIntervals) (most (rangeOf 1))
+
 abbrev pub roomForHalfBreadths : ℕ
-roomForHalfBreadths = pointsOf (most (rangeOf 0)) (most (rangeOf 1))
+roomForHalfBreadths = roomForHalfBreadthsBy limits
 
 abbrev pub roomForItems : ℕ
 roomForItems = itemWidth * mostItems

@@ -5,8 +5,9 @@ ghost use lib.IntN.{pos};
 ghost use lib.ListN.{length, take, drop};
 ghost use Prim.Native.Nat.{_+_, _<_, _≤_};
 ghost use Rattle.ranges.specs.Private.Bounds.{boundsOf};
-ghost use Rattle.ranges.specs.Fields.{_to_, within, rangeOf, fields, particulars, halfBreadth, item, tank, rowRanges};
-ghost use Rattle.ranges.specs.Outside.{fieldAfter, firstOutside, numbersOf};
+ghost use Rattle.ranges.specs.Fields.{_to_, within, rangeOf, fields, halfBreadth, item, tank, rowRanges};
+ghost use Rattle.ranges.specs.Limits.{limits};
+ghost use Rattle.ranges.specs.Outside.{fieldAfter, firstOutside, tooLong, badParticular};
 ghost use Rattle.ranges.specs.Sides.{sidesOf};
 ghost use Rattle.ranges.specs.Sizes.{wholeRecords, itemWidth, tankWidth, mostItems, mostTanks};
 
@@ -56,9 +57,9 @@ impl Refusal {
     // Where the places of each table's numbers begin; the particulars' begin at 0.
     pub const HALF_BREADTHS_AT: usize = PARTICULAR_COUNT;
 
-    pub const ITEMS_AT: usize = 1_000;
+    pub const ITEMS_AT: usize = 3_000;
 
-    pub const TANKS_AT: usize = 2_000;
+    pub const TANKS_AT: usize = 4_000;
 
     // The tables by number, as the places of a wrong size.
     pub const HALF_BREADTH_TABLE: usize = 0;
@@ -98,6 +99,9 @@ pub const ROW_WIDTH: usize = 7;
 // The fields by number: the first of each section.
 pub const PARTICULARS: usize = 0;
 
+// s, the third particular.
+pub const SPACING: usize = PARTICULARS + 2;
+
 pub const HALF_BREADTH: usize = PARTICULARS + PARTICULAR_COUNT;
 
 pub const ITEM: usize = HALF_BREADTH + 1;
@@ -106,10 +110,12 @@ pub const TANK: usize = ITEM + ITEM_WIDTH;
 
 pub const ROW: usize = TANK + TANK_WIDTH;
 
-// The most intervals of length, n, and of draft, m; the highest KM of a row, in mm.
-pub const MOST_LENGTH_INTERVALS: u64 = 40;
+// The most intervals of length, n, and of draft, m; the greatest length, n·s, and the highest KM of a row, in mm.
+pub const MOST_LENGTH_INTERVALS: u64 = 80;
 
 pub const MOST_DRAFT_INTERVALS: u64 = 20;
+
+pub const LONGEST_HULL: u64 = 100_000;
 
 pub const HIGHEST_METACENTRE: u64 = 100_000;
 
@@ -132,7 +138,7 @@ pub const MOST_ITEMS: usize = 32;
 pub const MOST_TANKS: usize = 16;
 
 // The most bytes of a file.
-pub const LONGEST_FILE: usize = 16_384;
+pub const LONGEST_FILE: usize = 32_768;
 
 // The room that holds the numbers of any file.
 pub const HALF_BREADTH_ROOM: usize = MOST_STATIONS * MOST_WATERLINES;
@@ -231,12 +237,30 @@ pub fn sides_of(y: i64) -> Sides
     }
 }
 
-// The place of the first particular out of range, or 5.
-pub fn particular_outside(p: Particulars) -> usize
-    ensures { λ r. ⌜ r ≡ firstOutside particulars (numbersOf p) ⌝ }
+// Whether a hull's length n·s is above the greatest, whatever the two are.
+pub fn is_too_long(p: Particulars) -> bool
+    ensures { λ r. ⌜ r ≡ tooLong limits p ⌝ }
+{
+    let n = p.n as u64;
+    if n == 0 {
+        return false;
+    }
+    LONGEST_HULL / n < p.s
+}
+
+// The place of the first particular out of range; where none is and the hull is too long, that of s; or 5.
+pub fn bad_particular(p: Particulars) -> usize
+    ensures { λ r. ⌜ r ≡ badParticular p ⌝ }
 {
     let numbers = [p.n as u64, p.m as u64, p.s, p.d, p.density];
-    whole_outside(&numbers, PARTICULARS, PARTICULAR_COUNT)
+    let outside = whole_outside(&numbers, PARTICULARS, PARTICULAR_COUNT);
+    if outside < PARTICULAR_COUNT {
+        return outside;
+    }
+    if is_too_long(p) {
+        return SPACING;
+    }
+    PARTICULAR_COUNT
 }
 
 // The place of the first half-breadth out of range, or the table's length.

@@ -1,8 +1,9 @@
 -- Tables and particulars whose numbers are all in range, as facts that proofs and private functions rest on, and one range of a row. The numbers are those of `Fields`.
-use Prim.Native.Nat.{ℕ, _≤_}
+use Prim.Native.Nat.{ℕ, _*_, _≤_}
 use mathlib.Core.List.{List}
 use lib.ListN.{getD}
 use Rattle.ranges.specs.Fields.{Range, _to_, rangeOf, rowRanges, least, most}
+use Rattle.ranges.specs.Limits.{limits}
 use Rattle.ranges.specs.declared.Particulars.{Particulars}
 
 pub record ParticularsInRange (p : Particulars) : Type 0 where
@@ -16,6 +17,7 @@ pub record ParticularsInRange (p : Particulars) : Type 0 where
   pub d-most : p .d ≤ most (rangeOf 3)
   pub density-least : least (rangeOf 4) ≤ p .density
   pub density-most : p .density ≤ most (rangeOf 4)
+  pub length-most : p .n * p .s ≤ limits .longestHull
 
 -- beyond the end there is 0
 abbrev pub HalfBreadthsInRange : List ℕ → Type 0
