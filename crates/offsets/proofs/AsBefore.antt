@@ -1,4 +1,4 @@
--- What document 01 alone lets a file hold, without request 3: a stricter grammar.
+-- What document 01 alone lets a file hold, without request 3: a stricter grammar. Its limits: proofs/Longer.
 --     Stricter, answered-still       what a stricter grammar reads is read as the same contents
 --     separatedBefore                "Separators are the space (32) and the line feed (10)"
 --     numberBefore                   "no leading zero unless the number is 0", and else a number as it is

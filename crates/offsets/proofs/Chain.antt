@@ -13,21 +13,22 @@ use lib.ListN.{length, take, getD}
 use lib.Seq.{getD-take}
 use Rattle.arithmetic.proofs.Choice.{chosen, if-either}
 use Rattle.ranges.specs.Fields.{Range, least, most, rangeOf, within, particulars, halfBreadth, item, tank}
+use Rattle.ranges.specs.Limits.{limits}
 use Rattle.ranges.specs.Outcome.{Outcome, answered, andThen}
 use Rattle.ranges.specs.Sizes.{itemWidth, tankWidth, mostItems, mostTanks, roomForHalfBreadths}
 use Rattle.ranges.specs.declared.Refusal.{Refusal}
 use Rattle.ranges.proofs.Facts.{within-whole, within-positive}
 use Rattle.ranges.proofs.Outcomes.{refused-not, then-assoc}
-use Rattle.offsets.specs.File.{Contents, records, points, section, complete, file}
+use Rattle.offsets.specs.File.{Contents, records, points, hullBy, section, complete, fileBy, file}
 use Rattle.offsets.specs.Reading.{count, numbers}
-use Rattle.offsets.specs.Private.Steps.{tokensAt, onStep, onNumbers, onEnd, countOf, halfBreadthField, itemField, tankField, rangesFrom, pointsIn, hullIn, Counts, ReadsAfter, Finishes, onParsed, Parses}
+use Rattle.offsets.specs.Private.Steps.{tokensAt, onStep, onNumbers, onEnd, countOf, halfBreadthField, itemField, tankField, rangesFrom, pointsIn, hullIn, Counts, ReadsAfter, HullAfter, Finishes, onParsed, Parses}
 use Rattle.offsets.specs.Tokens.{Token, tokens}
 use Rattle.offsets.specs.declared.reading.Step.{Step}
 use Rattle.offsets.specs.declared.reading.Step.the-variants as S
 use Rattle.offsets.specs.declared.reader.Parsed.the-variants as P
 use Rattle.offsets.proofs.InRanges.{in-ranges-length, in-ranges-at}
 use Rattle.offsets.proofs.Sound.{points-most}
-use Rattle.offsets.proofs.Within.{numbers-within}
+use Rattle.offsets.proofs.Within.{numbers-within, hull-within}
 
 -- ---- the ranges of whole records
 -- the fields go round: a whole record on, the same ranges
@@ -103,10 +104,10 @@ module _ (len : ℕ) (hull : List ℤ) where
   points-of-front : points (hullIn hull) ≡ points hull
   points-of-front = rw (front-at 0 (omega arith), front-at 1 (omega arith))
 
-  sized : (ts rest : List Token) → numbers len particulars ts ≡ answered (hullIn hull, rest) → points (hullIn hull) ≡ pointsIn hull
+  sized : (ts rest : List Token) → hullBy len limits ts ≡ answered (hullIn hull, rest) → points (hullIn hull) ≡ pointsIn hull
   unfolding pointsIn
   sized ts rest h =
-      let w = first-two ts rest h in
+      let w = first-two ts rest (hull-within len limits ts h .0) in
       let n : within (rangeOf 0) (pos (natAbs (getD hull 0 (pos 0)))) ≡ true = rw (within-positive (least (rangeOf 0)) (most (rangeOf 0)) (getD hull 0 (pos 0)) (w .0)) (w .0) in
       let m : within (rangeOf 1) (pos (natAbs (getD hull 1 (pos 0)))) ≡ true = rw (within-positive (least (rangeOf 1)) (most (rangeOf 1)) (getD hull 1 (pos 0)) (w .1)) (w .1) in
       points-of-front ∙ sym (simp (n, m, chosen))
@@ -127,7 +128,7 @@ points-room hull =
 module _ (text : List ℕ) (hull half items tanks : List ℤ) (five hullRead grid gridRead aboard aboardRead held heldRead end : Step) (points-read item-numbers tank-numbers : ℕ) where
   pub record Steps : Type 0 where
     pub count-five : Counts text (S.At 0 0) (length particulars) (length particulars) five
-    pub hull-numbers : ReadsAfter text five 0 (length particulars) (length particulars) hull hullRead
+    pub hull-numbers : HullAfter text five hull hullRead
     pub count-grid : Counts text hullRead (pointsIn hull) (pointsIn hull) grid
     pub grid-numbers : ReadsAfter text grid halfBreadthField 1 points-read half gridRead
     pub points-are : points-read ≡ countOf grid
@@ -159,10 +160,6 @@ module _ (text : List ℕ) (hull half items tanks : List ℤ) (five hullRead gri
   after-hull h k ts = andThen (section len k k halfBreadth ts) (λ read. after-half h (read .0) (read .1))
 
   -- the fields of each section, as the steps number them
-  hull-fields : rangesFrom 0 (length particulars) (length particulars) 0 ≡ particulars
-  unfolding rangesFrom
-  hull-fields = refl
-
   half-fields : rangesFrom halfBreadthField 1 1 0 ≡ halfBreadth
   unfolding rangesFrom
   half-fields = refl
@@ -176,12 +173,12 @@ module _ (text : List ℕ) (hull half items tanks : List ℤ) (five hullRead gri
   tank-fields = refl
 
   -- where the hull was read, its points are those that its numbers make
-  sized-after : (f : Step) (rest : List Token) → andThen (onStep text f) (λ at. numbers len particulars (at .1)) ≡ answered (hullIn hull, rest) → points (hullIn hull) ≡ pointsIn hull
+  sized-after : (f : Step) (rest : List Token) → andThen (onStep text f) (λ at. hullBy len limits (at .1)) ≡ answered (hullIn hull, rest) → points (hullIn hull) ≡ pointsIn hull
   unfolding onStep andThen
   sized-after (S.At k next) rest h = sized len hull (tokensAt text next) rest h
   sized-after (S.Refused r) rest h = refused-not h
 
-  points-step : (r : Step) → andThen (onStep text five) (λ at. numbers len particulars (at .1)) ≡ onNumbers text (hullIn hull) r → andThen (onStep text r) (λ at. after-hull (hullIn hull) (points (hullIn hull)) (at .1)) ≡ andThen (onStep text r) (λ at. after-hull (hullIn hull) (pointsIn hull) (at .1))
+  points-step : (r : Step) → andThen (onStep text five) (λ at. hullBy len limits (at .1)) ≡ onNumbers text (hullIn hull) r → andThen (onStep text r) (λ at. after-hull (hullIn hull) (points (hullIn hull)) (at .1)) ≡ andThen (onStep text r) (λ at. after-hull (hullIn hull) (pointsIn hull) (at .1))
   unfolding onStep onNumbers andThen
   points-step (S.At k next) h = ap (λ n. after-hull (hullIn hull) n (tokensAt text next)) (sized-after five (tokensAt text next) h)
   points-step (S.Refused r) h = refl
@@ -191,17 +188,14 @@ module _ (text : List ℕ) (hull half items tanks : List ℤ) (five hullRead gri
     unfolding onStep andThen tokensAt
     start = s .count-five .read
 
-    opened : file len (tokens text) ≡ andThen (onStep text five) (λ at. andThen (numbers len particulars (at .1)) (λ read. after-hull (read .0) (points (read .0)) (read .1)))
-    unfolding file after-hull after-half after-items after-tanks
-    opened = ap (λ m. andThen m (λ at. andThen (numbers len particulars (at .1)) (λ read. after-hull (read .0) (points (read .0)) (read .1)))) start
+    opened : file len (tokens text) ≡ andThen (onStep text five) (λ at. andThen (hullBy len limits (at .1)) (λ read. after-hull (read .0) (points (read .0)) (read .1)))
+    unfolding fileBy after-hull after-half after-items after-tanks
+    opened = ap (λ m. andThen m (λ at. andThen (hullBy len limits (at .1)) (λ read. after-hull (read .0) (points (read .0)) (read .1)))) start
 
-    hull-read : andThen (onStep text five) (λ at. numbers len particulars (at .1)) ≡ onNumbers text (hullIn hull) hullRead
-    hull-read = rw hull-fields at (s .hull-numbers)
-
-    with-hull : andThen (onStep text five) (λ at. andThen (numbers len particulars (at .1)) (λ read. after-hull (read .0) (points (read .0)) (read .1))) ≡ andThen (onStep text hullRead) (λ at. after-hull (hullIn hull) (points (hullIn hull)) (at .1))
+    with-hull : andThen (onStep text five) (λ at. andThen (hullBy len limits (at .1)) (λ read. after-hull (read .0) (points (read .0)) (read .1))) ≡ andThen (onStep text hullRead) (λ at. after-hull (hullIn hull) (points (hullIn hull)) (at .1))
     with-hull =
-        sym (then-assoc (onStep text five) (λ at. numbers len particulars (at .1)) (λ read. after-hull (read .0) (points (read .0)) (read .1)))
-        ∙ ap (λ m. andThen m (λ read. after-hull (read .0) (points (read .0)) (read .1))) hull-read
+        sym (then-assoc (onStep text five) (λ at. hullBy len limits (at .1)) (λ read. after-hull (read .0) (points (read .0)) (read .1)))
+        ∙ ap (λ m. andThen m (λ read. after-hull (read .0) (points (read .0)) (read .1))) (s .hull-numbers)
         ∙ numbers-step text (hullIn hull) hullRead (λ h ts. after-hull h (points h) ts)
 
     with-half : andThen (onStep text hullRead) (λ at. after-hull (hullIn hull) (pointsIn hull) (at .1)) ≡ andThen (onStep text gridRead) (λ at. after-half (hullIn hull) (take points-read half) (at .1))
@@ -224,7 +218,7 @@ module _ (text : List ℕ) (hull half items tanks : List ℤ) (five hullRead gri
     closed = s .finished contents
 
     file-of-steps : file len (tokens text) ≡ onEnd text contents end
-    file-of-steps = opened ∙ with-hull ∙ points-step hullRead hull-read ∙ with-half ∙ with-items ∙ with-tanks ∙ closed
+    file-of-steps = opened ∙ with-hull ∙ points-step hullRead (s .hull-numbers) ∙ with-half ∙ with-items ∙ with-tanks ∙ closed
 
     pub parses-refused : (r : Refusal) → end ≡ S.Refused r → Parses text hull half items tanks (P.Refused r)
     unfolding onParsed onEnd

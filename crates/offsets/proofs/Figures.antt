@@ -12,8 +12,9 @@ use Rattle.ranges.specs.Fields.{within}
 use Rattle.ranges.specs.Outcome.{Outcome, refused, andThen}
 use Rattle.ranges.specs.Refusals.{notANumber, countNotAllowed, endsTooEarly}
 use Rattle.ranges.specs.Sizes.{roomForHalfBreadths, roomForItems, roomForTanks}
-use Rattle.offsets.specs.File.{Contents, file}
-use Rattle.offsets.specs.Reader.{readerOf}
+use Rattle.ranges.proofs.Longer.{documentOne}
+use Rattle.offsets.specs.File.{Contents, hullBy, fileBy}
+use Rattle.offsets.specs.Reader.{readerOf, readerBy}
 use Rattle.offsets.specs.Reading.{one, count, numbers}
 use Rattle.offsets.specs.Tokens.{isSeparator, said, closed, tokensBy}
 use Rattle.offsets.proofs.AsBefore.{separatedBefore, leadingZero, withoutMinus, numberBefore, tokensBefore}
@@ -43,7 +44,7 @@ abbrev readWhole : List ℕ → Outcome Contents
 readWhole text = readerOf text roomForHalfBreadths roomForItems roomForTanks
 
 pub shortest-files : map (λ f. readWhole (f .0)) shortestFiles ≡ map (λ f. f .1) shortestFiles
-unfolding readerOf file count one numbers tokensBy closed said numberOf isWhole allDigits isDigit valueFrom isSeparator within andThen if_then_else_
+unfolding readerBy fileBy hullBy count one numbers tokensBy closed said numberOf isWhole allDigits isDigit valueFrom isSeparator within andThen if_then_else_
 shortest-files = refl
 
 abbrev shortestFilesBefore : List (List ℕ × Outcome Contents)
@@ -55,6 +56,6 @@ shortestFilesBefore =
     ∷ (minus ∷ 48 ∷ [], refused notANumber 0)
     ∷ []
 
-pub shortest-files-before : map (λ f. file (length (f .0)) (tokensBefore (f .0))) shortestFilesBefore ≡ map (λ f. f .1) shortestFilesBefore
-unfolding file count one tokensBy closed said numberBefore withoutMinus leadingZero numberOf isWhole allDigits isDigit valueFrom separatedBefore within andThen if_then_else_
+pub shortest-files-before : map (λ f. fileBy (length (f .0)) documentOne (tokensBefore (f .0))) shortestFilesBefore ≡ map (λ f. f .1) shortestFilesBefore
+unfolding fileBy count one tokensBy closed said numberBefore withoutMinus leadingZero numberOf isWhole allDigits isDigit valueFrom separatedBefore within andThen if_then_else_
 shortest-files-before = refl

@@ -3,6 +3,7 @@
 --     FileIn, file-in           contents that were read from some tokens
 -- Assumes nothing.
 use mathlib.Core.Path.{_≡_, sym, ap, subst, _∙_}
+use mathlib.Core.Bool.{false}
 use mathlib.Core.List.{List, [], _∷_, _++_, append-nil}
 use Prim.Native.Nat.{ℕ, _/_, _≤_, _<_}
 use native.Mathlib.Nat.{mul-div-cancel}
@@ -10,18 +11,20 @@ use native.Mathlib.Omega.{arith}
 use lib.IntN.{ℤ, pos}
 use lib.ListN.{length}
 use Rattle.ranges.specs.Fields.{Range, _to_, particulars, halfBreadth, item, tank}
+use Rattle.ranges.specs.Limits.{limits}
 use Rattle.ranges.specs.Outcome.{answered}
+use Rattle.ranges.specs.Outside.{particularsOf, tooLong}
 use Rattle.ranges.specs.Refusals.{countNotAllowed, outOfRange}
 use Rattle.ranges.specs.Sizes.{mostItems, mostTanks}
 use Rattle.ranges.proofs.Facts.{within-positive}
 use Rattle.ranges.proofs.Outcomes.{refused-not, answer-same, was-passed, answered-then}
-use Rattle.offsets.specs.File.{Contents, records, points, section, complete, file}
+use Rattle.offsets.specs.File.{Contents, records, points, section, complete, fileBy, file}
 use Rattle.offsets.specs.Reading.{one, count, numbers}
 use Rattle.offsets.specs.Tokens.{Token, number, noNumber}
 use Rattle.offsets.proofs.InRanges.{InRanges, in-ranges-length, length-of-records}
 use Rattle.offsets.proofs.Layouts.{Says, silent, followed}
 use Rattle.offsets.proofs.Sound.{Sound, recordsIn, tanksOn, itemsOn, halfBreadthsOn, numbersIn}
-use Rattle.offsets.proofs.Within.{one-within, count-within, numbers-within}
+use Rattle.offsets.proofs.Within.{one-within, count-within, numbers-within, hull-within}
 
 -- a section that was read: a count that is allowed, and so many records in range, as the tokens say
 pub record SectionIn (least most : ℕ) (fields : List Range) (ts : List Token) (vs : List ℤ) (rest : List Token) : Type 0 where
@@ -52,9 +55,10 @@ module _ {h i t rest : List Token} (c : Contents) (half : SectionIn (points (c .
   many-tanks : tanks .many ≡ recordsIn tank (c .tanks)
   many-tanks = recounted (tanks .many) tank (c .tanks) (omega arith) (tanks .in-range)
 
-  sound-of : InRanges particulars (c .hull) → Sound c
-  sound-of hull = record {
+  sound-of : InRanges particulars (c .hull) → tooLong limits (particularsOf (c .hull)) ≡ false → Sound c
+  sound-of hull short = record {
     hull = hull;
+    not-too-long = short;
     half-breadths = rw many-half at (half .in-range);
     few-items = omega (arith, many-items, items .high);
     items = rw many-items at (items .in-range);
@@ -125,7 +129,7 @@ module _ (textLength : ℕ) where
   complete-in c (noNumber place ∷ rest) e = refused-not e
 
   pub file-in : (ts : List Token) {c : Contents} → file textLength ts ≡ answered c → FileIn c ts
-  unfolding file
+  unfolding fileBy
   file-in ts e =
       let five = answered-then e in
       let hull = answered-then (five .2) in
@@ -140,9 +144,10 @@ module _ (textLength : ℕ) where
       let t = section-in 0 mostTanks tank (items .0 .1) (tanks .1) in
       let n = count-within textLength (length particulars) (length particulars) ts (five .1) in
       let fives : five .0 .0 ≡ length particulars = omega (arith, n) in
-      let said = numbers-say particulars (five .0 .1) (hull .1) (halfBreadthsOn d) (sections-say d h i t (end .1)) in
+      let held = hull-within textLength limits (five .0 .1) (hull .1) in
+      let said = numbers-say particulars (five .0 .1) (held .0) (halfBreadthsOn d) (sections-say d h i t (end .1)) in
       subst (λ c. FileIn c ts) (end .0)
       (record {
-        sound = sound-of d h i t (numbers-within textLength particulars (five .0 .1) (hull .1));
+        sound = sound-of d h i t (numbers-within textLength particulars (five .0 .1) (held .0)) (held .1);
         says = rw fives at (count-says (length particulars) (length particulars) ts (five .1) said);
       })

@@ -4,26 +4,25 @@
 --     length-of-records, records-at        the ranges of so many records, by place
 --     in-ranges-of-table, no-number-outside     a table of whole records with no number outside is in its ranges, and the other way
 --     Every, every-records                 what holds of every range of a record holds of every range of the records
---     Few, short-in-ranges                 ranges whose numbers have nine digits at the most
 --     Whole, whole-in-ranges               ranges of whole numbers: each is the signed form of its size
+--     hull-again                           so with the particulars
 -- Assumes nothing.
 use mathlib.Core.Path.{_≡_, refl, sym, ap, ap₂, _∙_}
 use mathlib.Core.Bool.{true}
 use mathlib.Core.Logic.{⊎-elim}
 use mathlib.Core.List.{List, [], _∷_, _++_, map}
-use Prim.Native.Nat.{ℕ, zero, suc, _+_, _-_, _*_, _%_, _^_, _≤_, _<_}
+use Prim.Native.Nat.{ℕ, zero, suc, _+_, _-_, _*_, _%_, _≤_, _<_}
 use native.Mathlib.Nat.{suc-mul, zero-mul, mod-eq-of-lt, add-mod-left}
 use native.Mathlib.Omega.{arith}
 use lib.IntN.{ℤ, pos, natAbs}
 use lib.ListN.{length, getD, length-append, List·getD-append}
 use lib.Seq.{getD-append-add}
 use Rattle.arithmetic.proofs.Tests.{less-or-not}
-use Rattle.numerals.specs.Number.{mostDigits}
-use Rattle.ranges.specs.Fields.{Range, _to_, ±_, within, most}
-use Rattle.ranges.specs.Outside.{firstOutside}
-use Rattle.ranges.proofs.Facts.{all-within, all-inside, within-size, within-positive}
+use Rattle.ranges.specs.Fields.{Range, _to_, ±_, within, particularsBy}
+use Rattle.ranges.specs.Limits.{Limits}
+use Rattle.ranges.specs.Outside.{firstOutside, numbersOf, particularsOf}
+use Rattle.ranges.proofs.Facts.{all-within, all-inside, within-positive}
 use Rattle.offsets.specs.File.{records}
-use Rattle.offsets.proofs.Spelled.{Short}
 
 pub data InRanges : List Range → List ℤ → Type 0 where
   no-more : InRanges [] []
@@ -97,14 +96,6 @@ unfolding records
 every-records P zero section h = tt
 every-records P (suc k) section h = every-append P section (records k section) h (every-records P k section h)
 
--- a range of numbers of nine digits at the most
-abbrev pub Few : Range → Type 0
-Few r = most r < 10 ^ mostDigits
-
-pub short-in-ranges : {rs : List Range} {vs : List ℤ} → Every Few rs → InRanges rs vs → Short vs
-short-in-ranges s no-more = tt
-short-in-ranges s (and-in {r = r} {v = v} w i) = (omega (arith, within-size r v w .1), short-in-ranges (s .1) i)
-
 -- a range of whole numbers
 abbrev pub Whole : Range → Type 0
 Whole (a to b) = Unit
@@ -117,3 +108,8 @@ positive-in (± b) v w e = absurd w
 pub whole-in-ranges : {rs : List Range} {vs : List ℤ} → Every Whole rs → InRanges rs vs → map pos (map natAbs vs) ≡ vs
 whole-in-ranges h no-more = refl
 whole-in-ranges h (and-in {r = r} {v = v} w i) = ap₂ _∷_ (positive-in r v (h .0) w) (whole-in-ranges (h .1) i)
+
+-- the particulars that five numbers make have those numbers
+pub hull-again : (allowed : Limits) {hull : List ℤ} → InRanges (particularsBy allowed) hull → numbersOf (particularsOf hull) ≡ hull
+hull-again allowed (and-in a (and-in b (and-in c (and-in d (and-in e no-more))))) =
+    whole-in-ranges (tt, (tt, (tt, (tt, (tt, tt))))) (and-in a (and-in b (and-in c (and-in d (and-in e no-more)))))

@@ -1,24 +1,21 @@
--- The laws of this crate, for every crate above it: reading, writing, and that what is written is read back.
+-- The laws of this crate, for every crate above it.
 pub mod Words
 pub mod Taking
 pub mod Within
 pub mod Stepping
+pub mod Particulars
 pub mod Runs
 pub mod Copies
 pub mod Chain
 pub mod Answers
 pub mod Layouts
-pub mod Spelled
 pub mod InRanges
 pub mod Sound
 pub mod FileIn
 pub mod Editors
 pub mod AsBefore
 pub mod Figures
-pub mod Tried
-pub mod RoundTrip
 pub mod Unique
-pub mod Calls
-pub mod Put
-pub mod WholeText
+pub mod WasRead
+pub mod Longer
 pub mod Numbered

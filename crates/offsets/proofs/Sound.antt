@@ -1,11 +1,11 @@
 -- Contents that a file can say: those of every file that is read, and of every file that is written.
---     Sound                     each number in its range, and no more items and tanks than allowed
+--     Sound                     each number in its range, no hull too long, and no more items and tanks than allowed
 --     hull-most, points-most, points-le      no hull has more stations, waterlines or points than there is room for
 --     numbersIn, mostNumbers    the numbers of a file of these contents, in their order, and how many there can be
 --     file-of-said              tokens that say them are read as these contents
 -- Assumes nothing.
 use mathlib.Core.Path.{_≡_, refl, _∙_}
-use mathlib.Core.Bool.{true}
+use mathlib.Core.Bool.{true, false}
 use mathlib.Core.List.{List, [], _∷_, _++_, append-nil}
 use Prim.Native.Nat.{ℕ, _+_, _*_, _/_, _≤_}
 use native.Mathlib.Nat.{mul-one, mul-le-mul}
@@ -15,11 +15,13 @@ use lib.IntN.{ℤ, pos, natAbs}
 use lib.ListN.{length, getD, length-append}
 use Rattle.arithmetic.proofs.Choice.{chosen}
 use Rattle.ranges.specs.Fields.{Range, _to_, most, rangeOf, within, particulars, halfBreadth, item, tank}
+use Rattle.ranges.specs.Limits.{limits}
 use Rattle.ranges.specs.Outcome.{Outcome, answered, andThen}
+use Rattle.ranges.specs.Outside.{particularsOf, tooLong}
 use Rattle.ranges.specs.Refusals.{countNotAllowed, outOfRange}
 use Rattle.ranges.specs.Sizes.{pointsOf, itemWidth, tankWidth, roomForHalfBreadths, roomForItems, roomForTanks, mostItems, mostTanks}
 use Rattle.ranges.proofs.Facts.{whole-within, within-size}
-use Rattle.offsets.specs.File.{Contents, records, points, section, complete, file}
+use Rattle.offsets.specs.File.{Contents, records, points, hullBy, section, complete, fileBy, file}
 use Rattle.offsets.specs.Reading.{one, count, numbers}
 use Rattle.offsets.specs.Tokens.{Token}
 use Rattle.offsets.proofs.InRanges.{InRanges, no-more, and-in, in-ranges-length, length-of-records}
@@ -31,6 +33,7 @@ recordsIn fields table = length table / length fields
 
 pub record Sound (c : Contents) : Type 0 where
   pub hull : InRanges particulars (c .hull)
+  pub not-too-long : tooLong limits (particularsOf (c .hull)) ≡ false
   pub half-breadths : InRanges (records (points (c .hull)) halfBreadth) (c .halfBreadths)
   pub few-items : recordsIn item (c .items) ≤ mostItems
   pub items : InRanges (records (recordsIn item (c .items)) item) (c .items)
@@ -107,6 +110,12 @@ module _ (textLength : ℕ) where
       let n = numbers-take i more (o .rest) (o .says) in
       record { rest = n .rest; read = rw (o .read, n .read); says = n .says }
 
+  hull-takes : {hull : List ℤ} → InRanges particulars hull → tooLong limits (particularsOf hull) ≡ false → (more : List ℤ) (ts : List Token) → Says (hull ++ more) ts → Takes (hullBy textLength limits ts) hull more
+  unfolding hullBy andThen
+  hull-takes i short more ts s =
+      let n = numbers-take i more ts s in
+      record { rest = n .rest; read = rw (n .read, short) (simp chosen); says = n .says }
+
   section-takes : (least most k : ℕ) (fields : List Range) {vs : List ℤ} → least ≤ k → k ≤ most → InRanges (records k fields) vs
       → (more : List ℤ) (ts : List Token) → Says (pos k ∷ vs ++ more) ts → Takes (section textLength least most fields ts) vs more
   unfolding section andThen
@@ -120,10 +129,10 @@ module _ (textLength : ℕ) where
   complete-at-end c silent = refl
 
   pub file-of-said : (c : Contents) (ts : List Token) → Sound c → Says (numbersIn c) ts → file textLength ts ≡ answered c
-  unfolding file andThen
+  unfolding fileBy andThen
   file-of-said c ts h s =
       let five = count-takes (length particulars) (length particulars) (length particulars) (lit≤ tt) (lit≤ tt) s in
-      let hull = numbers-take (h .hull) (halfBreadthsOn c) (five .rest) (five .says) in
+      let hull = hull-takes (h .hull) (h .not-too-long) (halfBreadthsOn c) (five .rest) (five .says) in
       let p = points (c .hull) in
       let half = section-takes p p p halfBreadth (omega arith) (omega arith) (h .half-breadths) (itemsOn c) (hull .rest) (hull .says) in
       let items = section-takes 0 mostItems (recordsIn item (c .items)) item (omega arith) (h .few-items) (h .items) (tanksOn c) (half .rest) (half .says) in

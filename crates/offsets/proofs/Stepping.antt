@@ -1,4 +1,5 @@
 -- One step of reading after another: a refusal is passed on, and from a place reading goes on.
+--     from-place                       from a place reading goes on
 --     counts-passed, counts-at         a count
 --     numbers-passed, numbers-at       numbers
 --     finish-passed, finish-end, finish-none, finish-number      nothing may follow
@@ -29,7 +30,7 @@ module _ (text : List ℕ) where
 
   module _ (step : Step) where
     -- from a place reading goes on
-    from-place : {B : Type 0} (k next : ℕ) → step ≡ S.At k next → (reading : List Token → Outcome B) → andThen (onStep text step) (λ at. reading (at .1)) ≡ reading (tokensAt text next)
+    pub from-place : {B : Type 0} (k next : ℕ) → step ≡ S.At k next → (reading : List Token → Outcome B) → andThen (onStep text step) (λ at. reading (at .1)) ≡ reading (tokensAt text next)
     unfolding onStep andThen
     from-place k next e reading = rw e
 

@@ -6,24 +6,28 @@ use lib.Dec.{ltb}
 use lib.IntN.{ℤ, natAbs}
 use lib.ListN.{length}
 use Rattle.arithmetic.specs.Choice.{if_then_else_}
+use Rattle.ranges.specs.Limits.{Limits, limits}
 use Rattle.ranges.specs.Outcome.{Outcome, answered, refused, answerWith, leftWith}
 use Rattle.ranges.specs.Outside.{particularsOf}
 use Rattle.ranges.specs.Refusals.{fileTooLong, wrongSize, halfBreadthTable, itemTable, tankTable}
-use Rattle.ranges.specs.Sizes.{longestFile, itemWidth, tankWidth, roomForHalfBreadths, roomForItems, roomForTanks}
-use Rattle.offsets.specs.File.{Contents, file}
+use Rattle.ranges.specs.Sizes.{itemWidth, tankWidth, roomForHalfBreadthsBy, roomForItems, roomForTanks}
+use Rattle.offsets.specs.File.{Contents, fileBy}
 use Rattle.offsets.specs.Tokens.{tokens}
 use Rattle.offsets.specs.declared.Read.{Read}
 use Rattle.offsets.specs.declared.Read.the-variants.{Sheet, Refused}
 use Rattle.offsets.specs.declared.Summary.{Summary}
 
--- "Reader: 7 (room below 861, 128 or 128 numbers), 1, then left to right", by the text and the lengths of the tables
-unfoldable pub readerOf : List ℕ → ℕ → ℕ → ℕ → Outcome Contents
-readerOf text halfBreadths items tanks =
-    if ltb halfBreadths roomForHalfBreadths then refused wrongSize halfBreadthTable
+-- "Reader: 7 (room below" 1,701, "128 or 128 numbers), 1, then left to right", by the text and the lengths of the tables
+unfoldable pub readerBy : Limits → List ℕ → ℕ → ℕ → ℕ → Outcome Contents
+readerBy allowed text halfBreadths items tanks =
+    if ltb halfBreadths (roomForHalfBreadthsBy allowed) then refused wrongSize halfBreadthTable
     else if ltb items roomForItems then refused wrongSize itemTable
     else if ltb tanks roomForTanks then refused wrongSize tankTable
-    else if ltb longestFile (length text) then refused fileTooLong longestFile
-    else file (length text) (tokens text)
+    else if ltb (allowed .longestFile) (length text) then refused fileTooLong (allowed .longestFile)
+    else fileBy (length text) allowed (tokens text)
+
+abbrev pub readerOf : List ℕ → ℕ → ℕ → ℕ → Outcome Contents
+readerOf = readerBy limits
 
 -- "the reader answers the particulars and the counts of items and tanks"
 abbrev pub summaryOf : Contents → Summary

@@ -31,6 +31,10 @@ pub data Token : Type 0 where
   number : ℕ → ℤ → Token
   noNumber : ℕ → Token
 
+abbrev pub placeOf : Token → ℕ
+placeOf (number place v) = place
+placeOf (noNumber place) = place
+
 unfoldable pub said : ℕ → Number → Token
 said place (Is v) = number place v
 said place Not = noNumber place

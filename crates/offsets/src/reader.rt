@@ -4,7 +4,6 @@ ghost use mathlib.Core.List.{_++_, map};
 ghost use Prim.Native.Nat.{_≤_};
 ghost use lib.IntN.{natAbs};
 ghost use lib.ListN.{length, take, drop};
-ghost use Rattle.ranges.specs.Outside.{particularsOf};
 ghost use Rattle.offsets.specs.Reader.{Reads};
 ghost use Rattle.offsets.specs.Private.Steps.{Parses, Rooms, Sized, pointsIn};
 use crate::Read;
@@ -13,13 +12,13 @@ use crate::reading::Step;
 use crate::reading::count_after;
 use crate::reading::count_of;
 use crate::reading::finish;
+use crate::reading::hull_after;
 use crate::reading::numbers_after;
+use crate::reading::particulars_of;
 use ranges::HALF_BREADTH;
 use ranges::ITEM;
 use ranges::ITEM_WIDTH;
 use ranges::PARTICULAR_COUNT;
-use ranges::PARTICULARS;
-use ranges::Particulars;
 use ranges::Refusal;
 use ranges::TANK;
 use ranges::TANK_WIDTH;
@@ -34,7 +33,7 @@ pub enum Parsed {
     Refused(Refusal),
 }
 
-// Reads a file's text into the lent tables, which need room for the largest: 861 half-breadths, 128 numbers of items, 128 of tanks.
+// Reads a file's text into the lent tables, which need room for the largest: 1,701 half-breadths, 128 numbers of items, 128 of tanks.
 pub fn read_file(
     text: &[u8],
     half_breadths: &mut [u64],
@@ -112,14 +111,7 @@ fn parse(
 {
     let start = Step::At { count: 0, next: 0 };
     let five = count_after(text, start, PARTICULAR_COUNT, PARTICULAR_COUNT);
-    let hull_read = numbers_after(
-        text,
-        five,
-        PARTICULARS,
-        PARTICULAR_COUNT,
-        PARTICULAR_COUNT,
-        hull,
-    );
+    let hull_read = hull_after(text, five, hull);
     let points = points_in(hull);
     let grid = count_after(text, hull_read, points, points);
     let point_count = count_of(grid);
@@ -155,19 +147,6 @@ fn points_in(hull: &[i64]) -> usize
         return 0;
     }
     (n as usize + 1) * (m as usize + 1)
-}
-
-// A hull's numbers by name.
-fn particulars_of(hull: &[i64]) -> Particulars
-    ensures { λ r. ⌜ r ≡ particularsOf (now (hull .entry)) ⌝ }
-{
-    Particulars {
-        n: arithmetic::size_at(hull, 0) as usize,
-        m: arithmetic::size_at(hull, 1) as usize,
-        s: arithmetic::size_at(hull, 2),
-        d: arithmetic::size_at(hull, 3),
-        density: arithmetic::size_at(hull, 4),
-    }
 }
 
 // Puts the first n numbers of a table into the front of another.

@@ -2,12 +2,16 @@
 ghost use mathlib.Core.Path.{_≡_};
 ghost use Prim.Native.Nat.{_+_, _<_, _≤_};
 ghost use lib.ListN.{length};
+ghost use Rattle.ranges.specs.Outside.{particularsOf};
 ghost use Rattle.ranges.specs.Refusals.{outOfRange};
 ghost use Rattle.offsets.specs.Reading.{one, count};
-ghost use Rattle.ranges.specs.Fields.{_to_, within, rangeOf, fields};
-ghost use Rattle.offsets.specs.Private.Steps.{tokensAt, onOne, onStep, countOf, Counts, ReadsFrom, ReadsAfter, Finishes};
+ghost use Rattle.ranges.specs.Fields.{_to_, within, rangeOf, fields, particulars};
+ghost use Rattle.offsets.specs.Private.Steps.{tokensAt, onOne, onStep, countOf, Counts, ReadsFrom, ReadsAfter, HullFrom, HullAfter, Finishes};
 use crate::tokens;
 use crate::tokens::Found;
+use ranges::PARTICULAR_COUNT;
+use ranges::PARTICULARS;
+use ranges::Particulars;
 use ranges::Refusal;
 
 // One number, with the place after it.
@@ -150,6 +154,56 @@ fn numbers_from(
         i += 1;
     }
     Step::At { count: n, next }
+}
+
+// The particulars after a step, into the front of a table: each in its range, and then their hull not too long, which is refused at s.
+pub(crate) fn hull_after(text: &[u8], step: Step, hull: &mut [i64]) -> Step
+    requires { ⌜ length particulars ≤ length (now hull) ⌝ }
+    ensures { λ r. ⌜ HullAfter (now (text .entry)) step (now (hull .exit)) r ⌝ }
+{
+    match step {
+        Step::Refused(r) => Step::Refused(r),
+        Step::At { count: _, next } => hull_from(text, next, hull),
+    }
+}
+
+// The same from a place on.
+fn hull_from(text: &[u8], from: usize, hull: &mut [i64]) -> Step
+    requires { ⌜ length particulars ≤ length (now hull) ⌝ }
+    ensures { λ r. ⌜ HullFrom (now (text .entry)) from (now (hull .exit)) r ⌝ }
+{
+    match numbers_from(
+        text,
+        from,
+        PARTICULARS,
+        PARTICULAR_COUNT,
+        PARTICULAR_COUNT,
+        hull,
+    ) {
+        Step::Refused(r) => Step::Refused(r),
+        Step::At { count, next } => {
+            if ranges::is_too_long(particulars_of(hull)) {
+                return Step::Refused(Refusal {
+                    number: Refusal::OUT_OF_RANGE,
+                    place: tokens::place_after(text, from, ranges::SPACING),
+                });
+            }
+            Step::At { count, next }
+        }
+    }
+}
+
+// A hull's numbers by name.
+pub(crate) fn particulars_of(hull: &[i64]) -> Particulars
+    ensures { λ r. ⌜ r ≡ particularsOf (now (hull .entry)) ⌝ }
+{
+    Particulars {
+        n: arithmetic::size_at(hull, 0) as usize,
+        m: arithmetic::size_at(hull, 1) as usize,
+        s: arithmetic::size_at(hull, 2),
+        d: arithmetic::size_at(hull, 3),
+        density: arithmetic::size_at(hull, 4),
+    }
 }
 
 // Nothing may follow the last section.

@@ -1,8 +1,9 @@
 // Tokens by place. Each byte of a text is looked at once, but for a separator after a token.
 ghost use mathlib.Core.Path.{_≡_};
 ghost use Prim.Native.Nat.{_<_};
+ghost use lib.ListN.{length};
 ghost use Rattle.offsets.specs.Tokens.{isSeparator};
-ghost use Rattle.offsets.specs.Private.Steps.{Finds, tokensAt, endsHere, FirstByte};
+ghost use Rattle.offsets.specs.Private.Steps.{Finds, tokensAt, endsHere, placeAfter, FirstByte};
 use numerals::Numeral;
 
 // What stands next in a text.
@@ -32,6 +33,35 @@ pub(crate) fn next_token(text: &[u8], from: usize) -> Found
         } else {
             Found::NoNumber { at }
         },
+    }
+}
+
+// The place of the token after `count` numbers from a place on; the text's end where there are not so many.
+pub(crate) fn place_after(text: &[u8], from: usize, count: usize) -> usize
+    ensures { λ r. ⌜ r ≡ placeAfter (length (now (text .entry))) count (tokensAt (now (text .entry)) from) ⌝ }
+{
+    let mut next = from;
+    let mut i = 0;
+    while i < count {
+        match next_token(text, next) {
+            Found::End => return text.len(),
+            Found::NoNumber { at: _ } => return text.len(),
+            Found::Number {
+                at: _,
+                value: _,
+                next: after,
+            } => next = after,
+        }
+        i += 1;
+    }
+    match next_token(text, next) {
+        Found::End => text.len(),
+        Found::NoNumber { at } => at,
+        Found::Number {
+            at,
+            value: _,
+            next: _,
+        } => at,
     }
 }
 

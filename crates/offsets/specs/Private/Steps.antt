@@ -8,11 +8,12 @@ use lib.IntN.{ℤ, pos, natAbs}
 use lib.ListN.{length, take, drop, getD}
 use Rattle.arithmetic.specs.Choice.{if_then_else_}
 use Rattle.ranges.specs.Fields.{Range, rangeOf, within, particulars, halfBreadth}
+use Rattle.ranges.specs.Limits.{limits}
 use Rattle.ranges.specs.Outcome.{Outcome, answered, refused, andThen}
 use Rattle.ranges.specs.Sizes.{longestFile, roomForHalfBreadths, roomForItems, roomForTanks, itemWidth, tankWidth, mostItems, mostTanks}
-use Rattle.offsets.specs.File.{Contents, points, complete, file}
+use Rattle.offsets.specs.File.{Contents, points, complete, file, hullBy}
 use Rattle.offsets.specs.Reading.{numbers, count}
-use Rattle.offsets.specs.Tokens.{Token, number, noNumber, isSeparator, tokensFrom, tokens}
+use Rattle.offsets.specs.Tokens.{Token, number, noNumber, placeOf, isSeparator, tokensFrom, tokens}
 use Rattle.offsets.specs.declared.tokens.Found.{Found}
 use Rattle.offsets.specs.declared.tokens.Found.the-variants.{End, Number, NoNumber}
 use Rattle.offsets.specs.declared.reading.One.{One}
@@ -88,6 +89,25 @@ abbrev pub ReadsAfter : List ℕ → Step → ℕ → ℕ → ℕ → List ℤ �
 ReadsAfter text step first width n after r =
     andThen (onStep text step) (λ at. numbers (length text) (rangesFrom first width n 0) (at .1)) ≡ onNumbers text (take n after) r
 
+-- the place of the token after k numbers; the text's end where there are not so many
+unfoldable pub placeAfter : ℕ → ℕ → List Token → ℕ
+placeAfter end k [] = end
+placeAfter end zero (t ∷ ts) = placeOf t
+placeAfter end (suc k) (number place v ∷ ts) = placeAfter end k ts
+placeAfter end (suc k) (noNumber place ∷ ts) = end
+
+-- the particulars in front of a table
+abbrev pub hullIn : List ℤ → List ℤ
+hullIn table = take (length particulars) table
+
+-- the particulars are read from a place on into the front of a table
+abbrev pub HullFrom : List ℕ → ℕ → List ℤ → Step → Type 0
+HullFrom text from after r = hullBy (length text) limits (tokensAt text from) ≡ onNumbers text (hullIn after) r
+
+-- the same after a step
+abbrev pub HullAfter : List ℕ → Step → List ℤ → Step → Type 0
+HullAfter text step after r = andThen (onStep text step) (λ at. hullBy (length text) limits (at .1)) ≡ onNumbers text (hullIn after) r
+
 -- the count where reading stands; none at a refusal
 abbrev pub countOf : Step → ℕ
 countOf (S.At k next) = k
@@ -107,10 +127,6 @@ unfoldable pub pointsIn : List ℤ → ℕ
 pointsIn hull =
     if within (rangeOf 0) (pos (natAbs (getD hull 0 (pos 0)))) then (if within (rangeOf 1) (pos (natAbs (getD hull 1 (pos 0)))) then points hull else 0)
     else 0
-
--- the particulars in front of a table
-abbrev pub hullIn : List ℤ → List ℤ
-hullIn table = take (length particulars) table
 
 -- a whole file was read into the front of four tables
 unfoldable pub onParsed : List ℤ → List ℤ → List ℤ → List ℤ → Parsed → Outcome Contents

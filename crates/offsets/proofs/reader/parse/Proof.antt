@@ -21,18 +21,18 @@ steps :
     let k1 = n1 .before .before in
     let s = k1 .before .before in
     Steps (s .args .text .now)
-    (n1 .numbers-after .last .1 .1 .1 .1 .1 .0)
-    (n2 .numbers-after2 .last .1 .1 .1 .1 .1 .0)
-    (n3 .numbers-after3 .last .1 .1 .1 .1 .1 .0)
-    (n4 .numbers-after4 .last .1 .1 .1 .1 .1 .0)
+    (n1 .hull-after .last .1 .1 .0)
+    (n2 .numbers-after .last .1 .1 .1 .1 .1 .0)
+    (n3 .numbers-after2 .last .1 .1 .1 .1 .1 .0)
+    (n4 .numbers-after3 .last .1 .1 .1 .1 .1 .0)
     (k1 .count-after .result)
-    (n1 .numbers-after .result)
+    (n1 .hull-after .result)
     (k2 .count-after2 .result)
-    (n2 .numbers-after2 .result)
+    (n2 .numbers-after .result)
     (k3 .count-after3 .result)
-    (n3 .numbers-after3 .result)
+    (n3 .numbers-after2 .result)
     (k4 .count-after4 .result)
-    (n4 .numbers-after4 .result)
+    (n4 .numbers-after3 .result)
     (c .finish .result)
     (n2 .before .before .count-of .result)
     (itemWidth * n3 .before .before .count-of2 .result)
@@ -48,30 +48,30 @@ steps c =
     let k1 = n1 .before .before in
     record {
       count-five = k1 .count-after .ensures;
-      hull-numbers = n1 .numbers-after .ensures;
+      hull-numbers = n1 .hull-after .ensures;
       count-grid = rw (k2 .before .points-in .ensures) at (k2 .count-after2 .ensures);
-      grid-numbers = n2 .numbers-after2 .ensures;
+      grid-numbers = n2 .numbers-after .ensures;
       points-are = n2 .before .before .count-of .ensures;
       count-aboard = k3 .count-after3 .ensures;
-      aboard-numbers = n3 .numbers-after3 .ensures;
+      aboard-numbers = n3 .numbers-after2 .ensures;
       items-are = ap (λ k. itemWidth * k) (n3 .before .before .count-of2 .ensures);
       count-held = k4 .count-after4 .ensures;
-      held-numbers = n4 .numbers-after4 .ensures;
+      held-numbers = n4 .numbers-after3 .ensures;
       tanks-are = ap (λ k. tankWidth * k) (n4 .before .before .count-of3 .ensures);
       finished = c .finish .ensures;
     }
 
 -- the hull's table keeps its length
-hull-length : (c : tie.After-finish) → let n1 = c .before .before .before .before .before .before .before .before .before .before .before .before .before .before .before .before .before .before .before in length (n1 .numbers-after .last .1 .1 .1 .1 .1 .0) ≡ length (n1 .before .before .before .before .args .hull .now)
+hull-length : (c : tie.After-finish) → let n1 = c .before .before .before .before .before .before .before .before .before .before .before .before .before .before .before .before .before .before .before in length (n1 .hull-after .last .1 .1 .0) ≡ length (n1 .before .before .before .before .args .hull .now)
 hull-length c =
     let n1 = c .before .before .before .before .before .before .before .before .before .before .before .before .before .before .before .before .before .before .before in
-    n1 .numbers-after .kept .1 .1 .1 .1 .1 .0
+    n1 .hull-after .kept .1 .1 .0
 
 count-after-requires : tie.Need-count-after-requires
 count-after-requires c κs = search needs
 
-numbers-after-requires : tie.Need-numbers-after-requires
-numbers-after-requires c κs = search needs
+hull-after-requires : tie.Need-hull-after-requires
+hull-after-requires c κs = search needs
 
 points-in-requires : tie.Need-points-in-requires
 points-in-requires c κs = search needs
@@ -82,11 +82,11 @@ count-after-requires-2 c κs = search needs
 count-of-requires : tie.Need-count-of-requires
 count-of-requires c κs = search needs
 
-numbers-after-requires-2 : tie.Need-numbers-after-requires-2
-numbers-after-requires-2 c κs =
+numbers-after-requires : tie.Need-numbers-after-requires
+numbers-after-requires c κs =
     let k = c .before .before in
     let p = k .before in
-    let hull = p .before .before .before .numbers-after .last .1 .1 .1 .1 .1 .0 in
+    let hull = p .before .before .before .hull-after .last .1 .1 .0 in
     (search needs, search needs, omega (arith, c .before .count-of .ensures, k .count-after2 .ensures .bounded, p .points-in .ensures, points-room hull))
 
 count-after-requires-3 : tie.Need-count-after-requires-3
@@ -98,8 +98,8 @@ count-of-requires-2 c κs = search needs
 mul-item-numbers : tie.Need-mul-item-numbers
 mul-item-numbers c = search needs
 
-numbers-after-requires-3 : tie.Need-numbers-after-requires-3
-numbers-after-requires-3 c κs = search needs
+numbers-after-requires-2 : tie.Need-numbers-after-requires-2
+numbers-after-requires-2 c κs = search needs
 
 count-after-requires-4 : tie.Need-count-after-requires-4
 count-after-requires-4 c κs = search needs
@@ -110,8 +110,8 @@ count-of-requires-3 c κs = search needs
 mul-tank-numbers : tie.Need-mul-tank-numbers
 mul-tank-numbers c = search needs
 
-numbers-after-requires-4 : tie.Need-numbers-after-requires-4
-numbers-after-requires-4 c κs =
+numbers-after-requires-3 : tie.Need-numbers-after-requires-3
+numbers-after-requires-3 c κs =
     let k = c .before .before in
     let s = k .before .before .before .before .before .before .before .before .before .before .before .before .before .before .before .before .before .before in
     (search needs, search needs, omega (arith, c .before .count-of3 .ensures, k .count-after4 .ensures .bounded, s .pre .tank-room))
@@ -166,19 +166,19 @@ parse-spec =
     tie.close
     (tie.spec
     count-after-requires
-    numbers-after-requires
+    hull-after-requires
     points-in-requires
     count-after-requires-2
     count-of-requires
-    numbers-after-requires-2
+    numbers-after-requires
     count-after-requires-3
     count-of-requires-2
     mul-item-numbers
-    numbers-after-requires-3
+    numbers-after-requires-2
     count-after-requires-4
     count-of-requires-3
     mul-tank-numbers
-    numbers-after-requires-4
+    numbers-after-requires-3
     finish-requires
     enum-known-r
     enum-told

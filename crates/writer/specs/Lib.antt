@@ -1,0 +1,4 @@
+-- The text of an offset file, and what the writer promises.
+pub mod Written
+pub mod Writer
+pub mod Private
