@@ -15,19 +15,19 @@ use Rattle.arithmetic.proofs.Choice.{chosen}
 use Rattle.ranges.specs.Fields.{particulars, halfBreadth}
 use Rattle.ranges.specs.Private.InRange.{ParticularsInRange}
 use Rattle.ranges.specs.Outcome.{refused, answerWith, leftWith}
-use Rattle.ranges.specs.Outside.{firstOutside, numbersOf}
+use Rattle.ranges.specs.Outside.{firstOutside, badParticular}
 use Rattle.ranges.specs.Refusals.{outOfRange, wrongSize, placeOfHalfBreadths, halfBreadthTable, rowTable}
 use Rattle.ranges.specs.Sizes.{pointsOf, rowWidth, rowsOver}
 use Rattle.ranges.specs.declared.Particulars.{Particulars}
 use Rattle.ranges.proofs.Facts.{particulars-in-range, half-breadths-in-range}
 use Rattle.hydrostatics.specs.Promise.{paper, MakesRows}
 use Rattle.hydrostatics.specs.Row.{rowOf}
-use Rattle.hydrostatics.specs.Rows.{rowsUpTo, rowsOf}
+use Rattle.hydrostatics.specs.Rows.{rowsUpTo, rowsBy, rowsOf}
 use Rattle.hydrostatics.specs.Private.Hull.{InRange}
 use Rattle.hydrostatics.specs.Private.Table.{FillsRows}
 use Rattle.hydrostatics.specs.declared.Rows.{Rows}
 
-pub particulars-told : {p : Particulars} {particular : ℕ} → particular ≡ firstOutside particulars (numbersOf p) → length particulars ≤ particular → ParticularsInRange p
+pub particulars-told : {p : Particulars} {particular : ℕ} → particular ≡ badParticular p → length particulars ≤ particular → ParticularsInRange p
 particulars-told {p} first a = particulars-in-range p (omega (arith, first))
 
 pub hull-told :
@@ -44,28 +44,28 @@ hull-told {table} range b second d = record {
 }
 
 -- ---- the outcome that the tests tell
-module _ (table : List ℕ) (p : Particulars) (room : ℕ) {particular : ℕ} (first : particular ≡ firstOutside particulars (numbersOf p)) where
+module _ (table : List ℕ) (p : Particulars) (room : ℕ) {particular : ℕ} (first : particular ≡ badParticular p) where
   pub bad-particular : particular < length particulars → rowsOf table p room ≡ refused outOfRange particular
-  unfolding rowsOf
+  unfolding rowsBy
   bad-particular a = simp (← first, lt-ltb _ _ a, chosen)
 
   module _ (a : length particulars ≤ particular) where
     pub wrong-table : (length table ≡ pointsOf (p .n) (p .m) → ⊥) → rowsOf table p room ≡ refused wrongSize halfBreadthTable
-    unfolding rowsOf
+    unfolding rowsBy
     wrong-table b = simp (← first, le-ltb _ _ a, ne-eqb _ _ b, chosen)
 
     module _ (b : length table ≡ pointsOf (p .n) (p .m)) where
       pub wrong-room : room < rowWidth * rowsOver (p .m) → rowsOf table p room ≡ refused wrongSize rowTable
-      unfolding rowsOf
+      unfolding rowsBy
       wrong-room c = simp (← first, le-ltb _ _ a, eq-eqb _ _ b, lt-ltb _ _ c, chosen)
 
       module _ (c : rowWidth * rowsOver (p .m) ≤ room) {place : ℕ} (second : place ≡ firstOutside halfBreadth (map pos table)) where
         pub bad-half-breadth : place < length table → rowsOf table p room ≡ refused outOfRange (placeOfHalfBreadths + place)
-        unfolding rowsOf
+        unfolding rowsBy
         bad-half-breadth d = simp (← first, ← second, le-ltb _ _ a, eq-eqb _ _ b, le-ltb _ _ c, lt-ltb _ _ d, chosen)
 
         pub rows-follow : length table ≤ place → rowsOf table p room ≡ rowsUpTo (rowOf table p) (rowsOver (p .m))
-        unfolding rowsOf
+        unfolding rowsBy
         rows-follow d = simp (← first, ← second, le-ltb _ _ a, eq-eqb _ _ b, le-ltb _ _ c, le-ltb _ _ d, chosen)
 
 -- ---- the promise

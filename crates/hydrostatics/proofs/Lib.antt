@@ -22,3 +22,4 @@ pub mod Unique
 pub mod Shown
 pub mod Numbered
 pub mod Engines
+pub mod Longer

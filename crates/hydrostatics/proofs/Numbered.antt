@@ -11,7 +11,7 @@ use Rattle.ranges.specs.declared.Particulars.{Particulars}
 use Rattle.ranges.proofs.Numbered.{numbered, then-numbered}
 use Rattle.hydrostatics.specs.Display.{displayOf}
 use Rattle.hydrostatics.specs.Row.{rowOf}
-use Rattle.hydrostatics.specs.Rows.{rowsUpTo, rowsOf}
+use Rattle.hydrostatics.specs.Rows.{rowsUpTo, rowsBy, rowsOf}
 use Rattle.hydrostatics.specs.Usable.{usableUpTo}
 use Rattle.hydrostatics.specs.declared.Row.{Row}
 
@@ -21,7 +21,7 @@ up-to-numbered row zero = search numbered
 up-to-numbered row (suc r) = then-numbered (up-to-numbered row r) (λ before. search numbered)
 
 pub rows-numbered : (table : List ℕ) (p : Particulars) (room : ℕ) → Numbered (rowsOf table p room)
-unfolding rowsOf
+unfolding rowsBy
 rows-numbered table p room = let rest = up-to-numbered (rowOf table p) (rowsOver (p .m)) in search numbered depth 8
 
 pub display-numbered : (row : Row) → Numbered (displayOf row)

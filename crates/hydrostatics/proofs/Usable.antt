@@ -17,7 +17,7 @@ use lib.ListN.{length, drop}
 use Rattle.arithmetic.proofs.Choice.{chosen}
 use Rattle.ranges.specs.Fields.{least, most, rangeOf, particulars, halfBreadth}
 use Rattle.ranges.specs.Outcome.{answered, andThen, leftWith}
-use Rattle.ranges.specs.Outside.{firstOutside, numbersOf}
+use Rattle.ranges.specs.Outside.{firstOutside, badParticular}
 use Rattle.ranges.specs.Refusals.{outOfRange, wrongSize, placeOfHalfBreadths, halfBreadthTable, rowTable}
 use Rattle.ranges.specs.Sizes.{pointsOf, rowWidth, rowsOver, leastRows, mostRows}
 use Rattle.ranges.specs.declared.Particulars.{Particulars}
@@ -25,7 +25,7 @@ use Rattle.ranges.proofs.Facts.{whole-within}
 use Rattle.ranges.proofs.Outcomes.{not-refused}
 use Rattle.hydrostatics.specs.Promise.{tableAfter, MakesRows}
 use Rattle.hydrostatics.specs.Row.{waterlineOf, rowFrom, rowOf}
-use Rattle.hydrostatics.specs.Rows.{displacementBefore, rowsOf}
+use Rattle.hydrostatics.specs.Rows.{displacementBefore, rowsBy, rowsOf}
 use Rattle.hydrostatics.specs.Usable.{inRange, spaced, rises, metacentreFits, usableRow, usableUpTo}
 use Rattle.hydrostatics.specs.Private.Hull.{InRange}
 use Rattle.hydrostatics.specs.declared.Rows.the-variants.{Made}
@@ -43,9 +43,9 @@ pub record Answered (table : List ℕ) (p : Particulars) (numbers : List ℕ) : 
   pub rows : Passed (rowOf table p) (rowsOver (p .m)) numbers
 
 pub answered-rows : {table : List ℕ} {p : Particulars} {numbers : List ℕ} (room : ℕ) → rowsOf table p room ≡ answered numbers → Answered table p numbers
-unfolding rowsOf
+unfolding rowsBy
 answered-rows {table} {p} room e =
-    let bad = firstOutside particulars (numbersOf p) in
+    let bad = badParticular p in
     let whole = length table in
     let size = pointsOf (p .n) (p .m) in
     let place = firstOutside halfBreadth (map pos table) in

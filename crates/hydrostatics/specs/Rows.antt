@@ -7,8 +7,9 @@ use lib.IntN.{pos}
 use lib.ListN.{length}
 use Rattle.arithmetic.specs.Choice.{if_then_else_}
 use Rattle.ranges.specs.Fields.{particulars, halfBreadth, highestMetacentre}
+use Rattle.ranges.specs.Limits.{Limits, limits}
 use Rattle.ranges.specs.Outcome.{Outcome, answered, refused, andThen}
-use Rattle.ranges.specs.Outside.{firstOutside, numbersOf}
+use Rattle.ranges.specs.Outside.{firstOutside, badParticularBy}
 use Rattle.ranges.specs.Refusals.{outOfRange, wrongSize, displacementNotRising, metacentreTooHigh, placeOfHalfBreadths, halfBreadthTable, rowTable}
 use Rattle.ranges.specs.Sizes.{rowWidth, rowsOver, pointsOf}
 use Rattle.ranges.specs.declared.Particulars.{Particulars}
@@ -33,12 +34,15 @@ module _ (row : ℕ → Row) where
 
 module _ (table : List ℕ) (p : Particulars) where
   -- "Rows: particulars, 7 (half-breadths exact, room at least 7(m−1)), half-breadths, then 8 and 9"
-  unfoldable pub rowsOf : ℕ → Outcome (List ℕ)
-  rowsOf room =
-      let badParticular = firstOutside particulars (numbersOf p) in
+  unfoldable pub rowsBy : Limits → ℕ → Outcome (List ℕ)
+  rowsBy allowed room =
+      let badParticular = badParticularBy allowed p in
       let badHalfBreadth = firstOutside halfBreadth (map pos table) in
       if ltb badParticular (length particulars) then refused outOfRange badParticular
       else if not (eqb (length table) (pointsOf (p .n) (p .m))) then refused wrongSize halfBreadthTable
       else if ltb room (rowWidth * rowsOver (p .m)) then refused wrongSize rowTable
       else if ltb badHalfBreadth (length table) then refused outOfRange (placeOfHalfBreadths + badHalfBreadth)
       else rowsUpTo (rowOf table p) (rowsOver (p .m))
+
+  abbrev pub rowsOf : ℕ → Outcome (List ℕ)
+  rowsOf = rowsBy limits

@@ -85,7 +85,7 @@ fn sums_by(engine: Engine, half_breadths: &[u64], p: Particulars) -> [Sums; MOST
 fn make_by(engine: Engine, half_breadths: &[u64], p: Particulars, rows: &mut [u64]) -> Rows
     ensures { λ r. ⌜ MakesRows (now («half_breadths» .entry)) p (now (rows .entry)) (now (rows .exit)) r ⌝ }
 {
-    let particular = ranges::particular_outside(p);
+    let particular = ranges::bad_particular(p);
     if particular < ranges::PARTICULAR_COUNT {
         return refused(Refusal::OUT_OF_RANGE, particular);
     }

@@ -10,8 +10,8 @@ use borrow.Author.Needs.{needs}
 use Rattle.hydrostatics.proofs.make_by.Statement.{statement}
 use Rattle.hydrostatics.proofs.make_by.Tie as tie
 
-particular-outside-requires : tie.Need-particular-outside-requires
-particular-outside-requires c κs = search needs
+bad-particular-requires : tie.Need-bad-particular-requires
+bad-particular-requires c κs = search needs
 
 refused-requires : tie.Need-refused-requires
 refused-requires c κs = search needs
@@ -19,17 +19,17 @@ refused-requires c κs = search needs
 returns : tie.Need-returns
 returns c =
     let t = c .before .before in
-    refuses (bad-particular _ _ _ (t .particular-outside .ensures) (c .before .if1 .taken)) (c .refused .ensures)
+    refuses (bad-particular _ _ _ (t .bad-particular .ensures) (c .before .if1 .taken)) (c .refused .ensures)
 
 add-if2 : tie.Need-add-if2
-add-if2 c = let range = particulars-told (c .before .particular-outside .ensures) (c .if1 .left) in omega arith
+add-if2 c = let range = particulars-told (c .before .bad-particular .ensures) (c .if1 .left) in omega arith
 
 add-if2-2 : tie.Need-add-if2-2
-add-if2-2 c = let range = particulars-told (c .before .particular-outside .ensures) (c .if1 .left) in omega arith
+add-if2-2 c = let range = particulars-told (c .before .bad-particular .ensures) (c .if1 .left) in omega arith
 
 mul-if2 : tie.Need-mul-if2
 mul-if2 c =
-    let range = particulars-told (c .before .particular-outside .ensures) (c .if1 .left) in
+    let range = particulars-told (c .before .bad-particular .ensures) (c .if1 .left) in
     let p = c .before .before .before .before .args .p in
     let stations : p .n + 1 ≤ most (rangeOf 0) + 1 = omega arith in
     let waterlines : p .m + 1 ≤ most (rangeOf 1) + 1 = omega arith in
@@ -41,10 +41,10 @@ refused-requires-2 c κs = search needs
 returns-2 : tie.Need-returns-2
 returns-2 c =
     let t = c .before .before .before in
-    refuses (wrong-table _ _ _ (t .particular-outside .ensures) (c .before .before .if1 .left) (c .before .if2 .taken)) (c .refused2 .ensures)
+    refuses (wrong-table _ _ _ (t .bad-particular .ensures) (c .before .before .if1 .left) (c .before .if2 .taken)) (c .refused2 .ensures)
 
 sub-if3 : tie.Need-sub-if3
-sub-if3 c = let range = particulars-told (c .before .before .particular-outside .ensures) (c .before .if1 .left) in omega arith
+sub-if3 c = let range = particulars-told (c .before .before .bad-particular .ensures) (c .before .if1 .left) in omega arith
 
 mul-if3 : tie.Need-mul-if3
 mul-if3 c = search needs
@@ -55,7 +55,7 @@ refused-requires-3 c κs = search needs
 returns-3 : tie.Need-returns-3
 returns-3 c =
     let t = c .before .before .before .before in
-    refuses (wrong-room _ _ _ (t .particular-outside .ensures) (c .before .before .before .if1 .left) (c .before .before .if2 .left) (c .before .if3 .taken)) (c .refused3 .ensures)
+    refuses (wrong-room _ _ _ (t .bad-particular .ensures) (c .before .before .before .if1 .left) (c .before .before .if2 .left) (c .before .if3 .taken)) (c .refused3 .ensures)
 
 half-breadth-outside-requires : tie.Need-half-breadth-outside-requires
 half-breadth-outside-requires c κs = search needs
@@ -69,13 +69,13 @@ refused-requires-4 c κs = search needs
 returns-4 : tie.Need-returns-4
 returns-4 c =
     let e = c .before .before .before in
-    refuses (bad-half-breadth _ _ _ (e .before .before .before .particular-outside .ensures) (e .before .before .if1 .left) (e .before .if2 .left) (e .if3 .left) (c .before .before .half-breadth-outside .ensures) (c .before .if4 .taken)) (c .refused4 .ensures)
+    refuses (bad-half-breadth _ _ _ (e .before .before .before .bad-particular .ensures) (e .before .before .if1 .left) (e .before .if2 .left) (e .if3 .left) (c .before .before .half-breadth-outside .ensures) (c .before .if4 .taken)) (c .refused4 .ensures)
 
 -- the hull is in range where no test has refused it
 in-range : (c : tie.Else4) → let s = c .before .before .before .before .before .before .before .before .args in InRange (s .half-breadths .now) (s .p)
 in-range c =
     let e = c .before .before in
-    let range = particulars-told (e .before .before .before .particular-outside .ensures) (e .before .before .if1 .left) in
+    let range = particulars-told (e .before .before .before .bad-particular .ensures) (e .before .before .if1 .left) in
     hull-told range (e .before .if2 .left) (c .before .half-breadth-outside .ensures) (c .if4 .left)
 
 sums-by-requires : tie.Need-sums-by-requires
@@ -92,14 +92,14 @@ returns-5 : tie.Need-returns-5
 returns-5 c =
     let l = c .before .before .before .before .before in
     let e = l .before .before in
-    makes (rows-follow _ _ _ (e .before .before .before .particular-outside .ensures) (e .before .before .if1 .left) (e .before .if2 .left) (e .if3 .left) (l .before .half-breadth-outside .ensures) (l .if4 .left))
+    makes (rows-follow _ _ _ (e .before .before .before .bad-particular .ensures) (e .before .before .if1 .left) (e .before .if2 .left) (e .if3 .left) (l .before .half-breadth-outside .ensures) (l .if4 .left))
     (fills-hull (c .before .before .before .before .sums-by .ensures) (c .before .before .fill-rows .ensures))
 
 pub make-by-spec : {M : Type 1} → statement M
 make-by-spec =
     tie.close
     (tie.spec
-    particular-outside-requires
+    bad-particular-requires
     refused-requires
     returns
     add-if2

@@ -28,7 +28,7 @@ loop-holds c = (omega arith, filling-none refl, filling-none refl, filling-none 
 
 section-at-requires : tie.Need-section-at-requires Inv-loop μ-loop
 section-at-requires c κs =
-    let given = c .before .before .before .pre in (given .0, c .loop-test .taken, given .1, given .2)
+    let given = c .before .before .before .pre in (given .0, omega (arith, c .loop-test .taken), given .1, given .2)
 
 mul-areas : tie.Need-mul-areas Inv-loop μ-loop
 mul-areas c = omega arith
