@@ -12,7 +12,7 @@ use lib.Dec.{ltb}
 use lib.ListN.{length, take}
 use lib.Seq.{take-all, length-take-le}
 use Rattle.arithmetic.proofs.Choice.{chosen}
-use Rattle.offsets.specs.Reader.{readerOf}
+use Rattle.offsets.specs.Reader.{readerBy}
 use Rattle.ranges.specs.Refusals.{fileTooLong}
 use Rattle.ranges.specs.Sizes.{longestFile}
 use Rattle.loading.specs.declared.Reading.{Reading}
@@ -20,7 +20,7 @@ use Rattle.report.specs.Lines.{refusalLine}
 use Rattle.report.specs.Sheet.{fileSaid, sheetBy}
 
 pub long-said : (reading : Reading) (text : List ℕ) → longestFile < length text → sheetBy reading text ≡ refusalLine fileTooLong longestFile
-unfolding sheetBy fileSaid readerOf
+unfolding sheetBy fileSaid readerBy
 long-said reading text long = simp (lt-ltb longestFile (length text) long, chosen)
 
 pub cut-alike : (reading : Reading) (text : List ℕ) → sheetBy reading (take (suc longestFile) text) ≡ sheetBy reading text

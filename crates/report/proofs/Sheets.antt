@@ -39,7 +39,7 @@ use Rattle.offsets.specs.Reader.{Reads, readerOf, summaryOf}
 use Rattle.offsets.specs.declared.Read.{Read as ReadAnswer}
 use Rattle.offsets.specs.declared.Read.the-variants as ReadAnswer
 use Rattle.offsets.specs.declared.Summary.{Summary}
-use Rattle.offsets.proofs.Calls.{halfBreadthsRead, itemsRead, tanksRead, contents-read}
+use Rattle.offsets.proofs.WasRead.{halfBreadthsRead, itemsRead, tanksRead, contents-read}
 use Rattle.offsets.proofs.Sound.{hull-most, points-le}
 use Rattle.ranges.specs.Fields.{most, rangeOf}
 use Rattle.ranges.specs.Outcome.{answered, leftWith}

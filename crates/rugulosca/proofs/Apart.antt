@@ -14,8 +14,9 @@ use Rattle.ranges.specs.Outcome.{Outcome, Numbered}
 use Rattle.ranges.specs.declared.Particulars.{Particulars}
 use Rattle.ranges.proofs.Numbered.{with-numbered}
 use Rattle.offsets.specs.Reader.{readerOf, summaryOf, summarised}
-use Rattle.offsets.specs.Writer.{writerOf, lengthOf}
-use Rattle.offsets.proofs.Numbered.{reader-numbered, writer-numbered}
+use Rattle.writer.specs.Writer.{writerOf, lengthOf}
+use Rattle.offsets.proofs.Numbered.{reader-numbered}
+use Rattle.writer.proofs.Numbered.{writer-numbered}
 use Rattle.hydrostatics.specs.Display.{displayOf}
 use Rattle.hydrostatics.specs.Promise.{rowCount, countOf}
 use Rattle.hydrostatics.specs.Rows.{rowsOf}

@@ -19,8 +19,8 @@ use Rattle.ranges.specs.declared.Particulars.{Particulars}
 use Rattle.hydrostatics.specs.Promise.{MakesRows}
 use Rattle.hydrostatics.specs.declared.Rows.{Rows}
 use Rattle.loading.specs.declared.Condition.{Condition}
-use Rattle.offsets.specs.Writer.{Writes}
-use Rattle.offsets.specs.declared.Written.{Written}
+use Rattle.writer.specs.Writer.{Writes}
+use Rattle.writer.specs.declared.Written.{Written}
 use Rattle.rugulosca.specs.Told.{numberOf, placeAfter, valueAfter, tangentAfter, Tells, TellsCondition}
 
 pub told : {A B : Type 0} (value : A → B) {o : Outcome A} {a : A} {was : B} {place : ℕ} → answered a ≡ o → Tells value o was (value a) place place 0

@@ -5,13 +5,13 @@ ghost use lib.IntN.{pos};
 ghost use lib.ListN.{length};
 ghost use Rattle.ranges.specs.Outside.{particularsOf};
 ghost use Rattle.offsets.specs.Reader.{ReadInto, readerOf, summarised};
-ghost use Rattle.offsets.specs.Writer.{writerOf, lengthOf, roomAfter};
+ghost use Rattle.writer.specs.Writer.{writerOf, lengthOf, roomAfter};
 ghost use Rattle.rugulosca.specs.Told.{Tells, summaryNumbers};
 use crate::ANSWERED;
 use crate::hulls::particulars_of;
 use offsets::Read;
-use offsets::Written;
 use ranges::PARTICULAR_COUNT;
+use writer::Written;
 
 // The particulars, and the counts of items and of tanks.
 const SUMMARY_COUNT: usize = PARTICULAR_COUNT + 2;
@@ -64,7 +64,7 @@ pub extern "C" fn rugulosca_write(
     ensures { λ r. ⌜ Tells (λ n. n) (lengthOf (writerOf (particularsOf (map pos (now (particulars .entry)))) (now («half_breadths» .entry)) (now (items .entry)) (now (tanks .entry)) (length (now (room .entry))))) (now (count .entry)) (now (count .exit)) (now (place .entry)) (now (place .exit)) r ⌝ }
     ensures { λ _. ⌜ now (room .exit) ≡ roomAfter (writerOf (particularsOf (map pos (now (particulars .entry)))) (now («half_breadths» .entry)) (now (items .entry)) (now (tanks .entry)) (length (now (room .entry)))) (now (room .entry)) ⌝ }
 {
-    match offsets::write_file(
+    match writer::write_file(
         particulars_of(particulars),
         half_breadths,
         items,

@@ -1,7 +1,7 @@
 -- The answer of the call beneath, told by numbers. Assumes nothing.
 use borrow.Author.Needs.{needs}
 use mathlib.Core.Path.{ap, sym, _∙_}
-use Rattle.offsets.specs.Writer.{paper}
+use Rattle.writer.specs.Writer.{paper}
 use Rattle.rugulosca.proofs.Telling.{told, declined, written-at}
 use Rattle.rugulosca.proofs.files.rugulosca_write.Statement.{statement}
 use Rattle.rugulosca.proofs.files.rugulosca_write.Tie as tie
