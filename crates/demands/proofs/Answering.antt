@@ -18,14 +18,16 @@ use Rattle.ranges.proofs.Numbered.{with-numbered}
 use Rattle.offsets.specs.File.{Contents}
 use Rattle.offsets.specs.Reader.{Reads, readerOf, summaryOf, summarised}
 use Rattle.offsets.specs.Reader as Reader
-use Rattle.offsets.specs.Writer.{Writes, writerOf, lengthOf, roomAfter}
-use Rattle.offsets.specs.Writer as Writer
+use Rattle.writer.specs.Writer.{Writes, writerOf, lengthOf, roomAfter}
+use Rattle.writer.specs.Writer as Writer
 use Rattle.offsets.specs.declared.Read.{Read}
 use Rattle.offsets.specs.declared.Read.the-variants as Read
-use Rattle.offsets.specs.declared.Written.{Written}
-use Rattle.offsets.specs.declared.Written.the-variants as Written
-use Rattle.offsets.proofs.Numbered.{reader-numbered, writer-numbered}
-use Rattle.offsets.proofs.Unique.{reads-unique, writes-unique}
+use Rattle.writer.specs.declared.Written.{Written}
+use Rattle.writer.specs.declared.Written.the-variants as Written
+use Rattle.offsets.proofs.Numbered.{reader-numbered}
+use Rattle.writer.proofs.Numbered.{writer-numbered}
+use Rattle.offsets.proofs.Unique.{reads-unique}
+use Rattle.writer.proofs.Unique.{writes-unique}
 use Rattle.hydrostatics.specs.Display as Display
 use Rattle.hydrostatics.specs.Display.{displayOf}
 use Rattle.hydrostatics.specs.Promise.{MakesRows, rowCount, countOf, tableAfter}

@@ -7,7 +7,7 @@ use Prim.Native.Nat.{ℕ}
 use lib.IntN.{ℤ, pos}
 use Rattle.simpson.proofs.Front.{curve-two, curve-three, curve-off}
 use Rattle.simpson.proofs.Moments.{curve-exact, answer-exact}
-use Rattle.offsets.proofs.Calls.{write-then-read}
+use Rattle.writer.proofs.Calls.{write-then-read}
 use Rattle.hydrostatics.specs.Hull.{halfBreadth}
 use Rattle.hydrostatics.specs.Row.{waterlineOf}
 use Rattle.hydrostatics.specs.Private.Sections.{areaAt, momentAt}
@@ -36,6 +36,7 @@ use Rattle.demands.specs.RunningTally.{RunningTally}
 use Rattle.demands.specs.SecondCalculation.{SecondCalculation}
 use Rattle.demands.specs.TwoReadings.{TwoReadings}
 use Rattle.demands.proofs.Answering.{sheet-answers, reader-answers, writer-answers, rows-answer, display-answers, condition-answers, totals-answer, step-answers, aboard-answers}
+use Rattle.demands.proofs.Longer.{longer-tables}
 
 demand-1 : Demand1
 demand-1 = record {
@@ -122,4 +123,5 @@ demands-met = record {
   running-tally = running-tally;
   two-readings = two-readings;
   second-calculation = second-calculation;
+  longer-tables = longer-tables;
 }

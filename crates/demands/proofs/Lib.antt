@@ -1,4 +1,5 @@
 -- That the demands are met.
 pub mod Backs
 pub mod Answering
+pub mod Longer
 pub mod DemandsMet

@@ -15,11 +15,11 @@ use Rattle.simpson.specs.declared.CurveSum.the-variants.{Sum}
 use Rattle.offsets.specs.Back.{RoomForAnyFile, ReadBack, summaryWith}
 use Rattle.offsets.specs.Reader as Reader
 use Rattle.offsets.specs.Reader.{Reads}
-use Rattle.offsets.specs.Writer as Writer
-use Rattle.offsets.specs.Writer.{Writes}
+use Rattle.writer.specs.Writer as Writer
+use Rattle.writer.specs.Writer.{Writes}
 use Rattle.offsets.specs.declared.Read.{Read}
-use Rattle.offsets.specs.declared.Written.{Written}
-use Rattle.offsets.specs.declared.Written.the-variants.{Wrote}
+use Rattle.writer.specs.declared.Written.{Written}
+use Rattle.writer.specs.declared.Written.the-variants.{Wrote}
 use Rattle.hydrostatics.specs.Display as Display
 use Rattle.hydrostatics.specs.Display.{displayOf}
 use Rattle.hydrostatics.specs.Hull.{halfBreadth, Q}
@@ -58,6 +58,7 @@ use Rattle.report.specs.declared.Report.{Report as Reported}
 use Rattle.rugulosca.specs.Told.{Tells, Apart}
 use Rattle.demands.specs.Answering.{AnswersOrRefuses}
 use Rattle.demands.specs.Conditioned.{Conditioned, IsCondition}
+use Rattle.demands.specs.LongerTables.{LongerTables}
 use Rattle.demands.specs.RunningTally.{RunningTally}
 use Rattle.demands.specs.SecondCalculation.{SecondCalculation}
 use Rattle.demands.specs.TwoReadings.{TwoReadings}
@@ -90,7 +91,7 @@ pub record Demand1 : Type 1 where
       → Apart outcome number × ((n p : ℕ) → outcome ≡ refused n p → (placeLeft ≡ p) × (left ≡ was))
 
 pub record Demand2 : Type 0 where
-  -- "2. Areas, volumes, centres and metacentric radii are those of Simpson's first and second rules as document 01 states them, at every count from 2 to 40 intervals."
+  -- "2. Areas, volumes, centres and metacentric radii are those of Simpson's first and second rules as document 01 states them, at every count from 2 to" 80 "intervals."
   pub rows-follow-the-rules : {halfBreadths : List ℕ} {p : Particulars} {rows after : List ℕ} {count : ℕ} → MakesRows halfBreadths p rows after (Made count)
       → (count ≡ rowsOver (p .m)) × ((r : ℕ) → r < count → rowIn after r ≡ rowOf halfBreadths p r)
   -- "A condition's draft, KM, GM and heel outcome follow its formulas."
@@ -131,3 +132,4 @@ pub record Demands : Type 1 where
   pub running-tally : RunningTally
   pub two-readings : TwoReadings
   pub second-calculation : SecondCalculation
+  pub longer-tables : LongerTables
