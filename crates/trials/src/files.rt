@@ -6,15 +6,15 @@ use crate::data::Kind;
 use crate::say;
 use loading::Reading;
 use offsets::Read;
-use offsets::Written;
 use ranges::Particulars;
 use report::Report;
+use writer::Written;
 
 // There are no fewer than these, so that a lost one is noticed.
-const FEWEST: u64 = 85;
+const FEWEST: u64 = 142;
 
 // The same of those by the straight line.
-const FEWEST_BY_STRAIGHT_LINE: u64 = 72;
+const FEWEST_BY_STRAIGHT_LINE: u64 = 64;
 
 // One byte more than a file may have.
 pub(crate) const LONGEST_INPUT: usize = ranges::LONGEST_FILE + 1;
@@ -153,7 +153,7 @@ pub(crate) fn points_of(p: Particulars) -> usize
 // Whether these tables, written and read, are the same.
 fn is_same_again(p: Particulars, half_breadths: &[u64], items: &[i64], tanks: &[i64]) -> bool {
     let mut text = [0u8; ranges::LONGEST_FILE];
-    match offsets::write_file(p, half_breadths, items, tanks, &mut text) {
+    match writer::write_file(p, half_breadths, items, tanks, &mut text) {
         Written::Refused(_) => false,
         Written::Wrote(count) => {
             let end = at_most(count, ranges::LONGEST_FILE);
