@@ -21,10 +21,14 @@
 extern "C" {
 #endif
 
-/* Room that is never too short: for a sheet, for the numbers of a file, and for the rows of a hull. */
+/* The most bytes of a file. */
+enum { RUGULOSCA_LONGEST_FILE = 32768 };
+
+/* Room that is never too short: for a sheet, for the numbers of a file, and for the rows of a hull; for a file's text
+ * that is written, so much as a file may have. */
 enum {
     RUGULOSCA_LONGEST_SHEET = 3173,
-    RUGULOSCA_HALF_BREADTH_ROOM = 861,
+    RUGULOSCA_HALF_BREADTH_ROOM = 1701,
     RUGULOSCA_ITEM_ROOM = 128,
     RUGULOSCA_TANK_ROOM = 128,
     RUGULOSCA_ROW_ROOM = 133

@@ -78,7 +78,8 @@ static int64_t gm_by(uint64_t (*condition)(const int64_t *, size_t, const int64_
 }
 
 int main(void) {
-    static uint8_t text[16385];
+    /* a byte more than a file may have, so that a longer one is refused */
+    static uint8_t text[RUGULOSCA_LONGEST_FILE + 1];
     uint8_t sheet[RUGULOSCA_LONGEST_SHEET];
     size_t count = 0;
     size_t place = 0;

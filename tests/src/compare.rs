@@ -2,6 +2,7 @@
 
 mod engines;
 mod history;
+mod lengths;
 mod observation;
 mod outcomes;
 mod readings;

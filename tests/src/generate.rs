@@ -15,6 +15,8 @@ mod trial_texts;
 use crate::calls::{Engine, Reading, Summary, Tally};
 use crate::peer;
 use crate::peer::ranges::{half_breadth_count, HALF_BREADTH, ITEM, PARTICULARS, ROW, TANK};
+use crate::peer::ranges::{HALF_BREADTH_ROOM, ITEM_ROOM, LONGEST_FILE, ROW_ROOM, SHEET_ROOM, TANK_ROOM};
+use crate::peer::ranges::{MOST_INTERVALS, MOST_WATERLINES};
 use crate::peer::tally::SLOTS;
 use crate::step::Step;
 use edges::{damage_number, damage_records, damage_size, edge};
@@ -23,11 +25,10 @@ pub use layouts::{MOST_DIGITS, SEPARATORS};
 use random::{mixed, Random};
 pub use row_tables::{DISPLACEMENT, KM};
 
-/// Rooms that are never too short.
-const SHEET_ROOM: usize = 3_173;
-const FILE_ROOM: usize = 16_384;
-const ROW_ROOM: usize = 133;
-const READ_ROOMS: [usize; 3] = [861, 128, 128];
+/// Rooms for reading that are never too short.
+const READ_ROOMS: [usize; 3] = [HALF_BREADTH_ROOM, ITEM_ROOM, TANK_ROOM];
+/// Room for the half-breadths of half as many intervals, which is too short for a file of any size.
+const SHORTER_HULL_ROOM: usize = (MOST_INTERVALS / 2 + 1) * MOST_WATERLINES;
 
 /// One call, or steps from an empty tally, one after another.
 #[derive(Debug)]
@@ -165,26 +166,33 @@ fn read(random: &mut Random) -> Call {
             _ => *room,
         };
     }
+    if random.one_in(32) {
+        rooms[0] = SHORTER_HULL_ROOM - random.index(2);
+    }
     Call::Read { text, rooms }
 }
 
 fn file_text(random: &mut Random) -> Vec<u8> {
-    let numbers = file_numbers(random);
+    let mut numbers = file_numbers(random);
     let damages = damages(random);
+    if damages > 0 && random.one_in(8) {
+        hulls::stretch(random, &mut numbers.particulars);
+    }
     texts::text(random, &numbers, damages)
 }
 
 fn write(random: &mut Random) -> Call {
     let mut numbers = file_numbers(random);
     for _ in 0..damages(random) {
-        match random.below(8) {
+        match random.below(9) {
             0 => damage_number(random, &mut numbers.particulars, &PARTICULARS),
             1 => damage_number(random, &mut numbers.half_breadths, &[HALF_BREADTH]),
             2 => damage_records(random, &mut numbers.items, &ITEM),
             3 | 4 => damage_records(random, &mut numbers.tanks, &TANK),
             5 => damage_size(random, &mut numbers.half_breadths, 1),
             6 => damage_size(random, &mut numbers.items, ITEM.len()),
-            _ => damage_size(random, &mut numbers.tanks, TANK.len()),
+            7 => damage_size(random, &mut numbers.tanks, TANK.len()),
+            _ => damage_length(random, &mut numbers.particulars),
         }
     }
     let room = match random.below(8) {
@@ -193,9 +201,17 @@ fn write(random: &mut Random) -> Call {
             near(random, needed(peer::write(particulars, half_breadths, items, tanks, &mut [])))
         }
         4 => 0,
-        _ => FILE_ROOM,
+        _ => LONGEST_FILE,
     };
     Call::Write { numbers, room }
+}
+
+/// A hull as long as may be or longer, half of the time with a particular at an edge besides.
+fn damage_length(random: &mut Random, particulars: &mut [u64; 5]) {
+    hulls::stretch(random, particulars);
+    if random.one_in(2) {
+        damage_number(random, particulars, &PARTICULARS);
+    }
 }
 
 /// The length that a call without room asks for.
@@ -218,10 +234,11 @@ fn rows(random: &mut Random) -> Call {
     let exact = (particulars[1] as usize - 1) * ROW.len();
     let mut room = random.pick(&[exact, exact, exact + 1, ROW_ROOM, ROW_ROOM + 9]);
     for _ in 0..damages(random) {
-        match random.below(6) {
+        match random.below(7) {
             0 | 1 => damage_number(random, &mut particulars, &PARTICULARS),
             2 | 3 => damage_number(random, &mut half_breadths, &[HALF_BREADTH]),
             4 => damage_size(random, &mut half_breadths, 1),
+            5 => damage_length(random, &mut particulars),
             _ => room = random.pick(&[0, exact - 1, exact - ROW.len(), room]),
         }
     }

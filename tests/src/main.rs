@@ -1,6 +1,7 @@
 //! The outside tests of Rugulosca: its static library beside an own calculation, compared and timed.
 //!
-//! `tests/run` is the way in. Without the library only the vectors can be run, over the own calculation alone.
+//! `tests/run` is the way in. Without the library only the vectors can be run, over the own calculation alone, and the
+//! files with a name printed.
 
 #[cfg_attr(not(linked), allow(dead_code))]
 mod calculation;
@@ -23,7 +24,8 @@ use std::path::Path;
 use std::process::ExitCode;
 
 const USAGE: &str = "usage: outside compare SEED CASES | replay SEED CASE | vectors FOLDER | measure
-       outside repeat library|peer CALL smallest|sample|largest TIMES
+       outside file FILE | repeat library|peer CALL FILE TIMES
+       FILE: smallest|sample|forty|largest
        CALL: read|rows|sections|condition|report|write|load|discharge|aboard";
 
 fn main() -> ExitCode {
@@ -49,6 +51,10 @@ fn run(words: &[&str]) -> Option<bool> {
                 Some(false)
             }
         },
+        ["file", name] => {
+            print!("{}", samples::file(name)?);
+            Some(true)
+        }
         _ => run_linked(words),
     }
 }

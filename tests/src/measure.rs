@@ -1,17 +1,17 @@
-//! Times the library beside the own calculation, call by call, on three files.
+//! Times the library beside the own calculation, call by call, on the files with a name.
 
 use crate::calculation::{Calculation, LIBRARY, PEER};
 use crate::calls::{Engine, Reading, Tally};
 use crate::generate::FileNumbers;
+use crate::peer::ranges::{HALF_BREADTH_ROOM, ITEM_ROOM, LONGEST_FILE, ROW, ROW_ROOM, TANK_ROOM};
 use crate::peer::tally::SLOT_NUMBERS;
-use crate::samples::{largest_file, SAMPLE_FILE, SMALLEST_FILE};
+use crate::samples;
 use std::hint::black_box;
 use std::time::{Duration, Instant};
 
 const ROUNDS: usize = 40;
 const ROUND_TIME: Duration = Duration::from_millis(5);
 const CALLS: [&str; 9] = ["read", "rows", "sections", "condition", "report", "write", "load", "discharge", "aboard"];
-const FILES: [&str; 3] = ["smallest", "sample", "largest"];
 
 /// Prints the times of every call on every file.
 pub fn run() {
@@ -19,7 +19,7 @@ pub fn run() {
     println!("Tables and rooms are lent again as the call before left them; they are not cleared between calls.");
     println!("A tally has the file's items, one a slot; load and discharge are of the last of them, put back by hand.");
     println!("{:10} {:9} {:>19} {:>19} {:>13}", "call", "file", "library", "peer", "library/peer");
-    for file in FILES {
+    for file in samples::NAMES {
         let mut lent = Lent::of(file).expect("the file has a name");
         for call in CALLS {
             let (library, peer) = measure(call, &mut lent);
@@ -107,19 +107,14 @@ struct Lent {
 
 impl Lent {
     fn of(file: &str) -> Option<Lent> {
-        let text = match file {
-            "smallest" => SMALLEST_FILE.to_string(),
-            "sample" => SAMPLE_FILE.to_string(),
-            "largest" => largest_file(),
-            _ => return None,
-        };
+        let text = samples::file(file)?;
         let FileNumbers { particulars, half_breadths, items, tanks } = FileNumbers::of_text(text.as_bytes())?;
-        let mut tables = (vec![0; 861], vec![0; 128], vec![0; 128], vec![0; 133]);
+        let mut tables = (vec![0; HALF_BREADTH_ROOM], vec![0; ITEM_ROOM], vec![0; TANK_ROOM], vec![0; ROW_ROOM]);
         let count = (PEER.rows)(Engine::default(), &half_breadths, &particulars, &mut tables.3).ok()?;
-        let rows = tables.3[..7 * count].to_vec();
+        let rows = tables.3[..ROW.len() * count].to_vec();
         (PEER.condition)(Reading::default(), &items, &tanks, &rows).ok()?;
         let lift = Lift::of(&items)?;
-        let (text, room) = (text.into_bytes(), vec![0; 16_384]);
+        let (text, room) = (text.into_bytes(), vec![0; LONGEST_FILE]);
         Some(Lent { text, particulars, half_breadths, items, tanks, rows, lift, room, tables })
     }
 

@@ -1,7 +1,22 @@
-//! Files with a name: the paper's sample, the smallest that gives a condition, and the largest.
+//! Files with a name: the paper's sample, the smallest that gives a condition, the largest, and one of forty intervals of
+//! length, which is the largest's hull with half as many.
 
 #[cfg(test)]
 use crate::calls::Reading;
+use crate::peer::ranges::{LONGEST_HULL, MOST_INTERVALS, MOST_ITEMS, MOST_TANKS, MOST_WATERLINES};
+
+pub const NAMES: [&str; 4] = ["smallest", "sample", "forty", "largest"];
+
+/// The text of the file that has this name.
+pub fn file(name: &str) -> Option<String> {
+    match name {
+        "smallest" => Some(SMALLEST_FILE.to_string()),
+        "sample" => Some(SAMPLE_FILE.to_string()),
+        "forty" => Some(laden_ship(40)),
+        "largest" => Some(laden_ship(MOST_INTERVALS)),
+        _ => None,
+    }
+}
 
 /// The file of the paper's trial figures.
 pub const SAMPLE_FILE: &str = "\
@@ -37,24 +52,26 @@ C 50000 1250 {km} 5000 46500000 1333334 {gm} 2000000 heeled 1
 }
 
 /// Two intervals of length, three of draft, one item, and no number longer than it must be.
-pub const SMALLEST_FILE: &str = "5 2 3 99 300 900 12 9 9 9 9 9 9 9 9 9 9 9 9 1 1 0 0 0 0";
+const SMALLEST_FILE: &str = "5 2 3 99 300 900 12 9 9 9 9 9 9 9 9 9 9 9 9 1 1 0 0 0 0";
 
-const STATIONS: i64 = 41;
-const WATERLINES: i64 = 21;
-const ITEMS: i64 = 32;
-const TANKS: i64 = 16;
+const WATERLINES: i64 = MOST_WATERLINES as i64;
+const ITEMS: i64 = MOST_ITEMS as i64;
+const TANKS: i64 = MOST_TANKS as i64;
 
-/// Forty intervals of length, twenty of draft, and as many items and tanks as a file may have, on a ship's lines.
-pub fn largest_file() -> String {
-    let mut text = String::from("5\n40 20 2500 500 1025\n861\n");
-    for station in 0..STATIONS {
-        line(&mut text, (0..WATERLINES).map(|waterline| half_breadth(station, waterline)));
+/// A ship's lines over the longest hull in so many intervals, with as many of draft, items and tanks as a file may have.
+fn laden_ship(intervals: usize) -> String {
+    let n = intervals as i64;
+    let mut text = String::from("5\n");
+    line(&mut text, [n, WATERLINES - 1, LONGEST_HULL as i64 / n, 500, 1_025]);
+    line(&mut text, [(n + 1) * WATERLINES]);
+    for station in 0..=n {
+        line(&mut text, (0..WATERLINES).map(|waterline| half_breadth(n, station, waterline)));
     }
-    text.push_str("32\n");
+    line(&mut text, [ITEMS]);
     for item in 0..ITEMS {
         line(&mut text, [200_000 - 1_000 * item, 3_000 * item + 1_500, sideways(item), 2_000 + 100 * item]);
     }
-    text.push_str("16\n");
+    line(&mut text, [TANKS]);
     for tank in 0..TANKS {
         let contents = 150_000 + 5_000 * tank;
         line(&mut text, [contents, 250_000, 6_000 * tank + 2_500, sideways(tank), 1_250, 5_500, 6_250, 1_010]);
@@ -63,11 +80,11 @@ pub fn largest_file() -> String {
 }
 
 /// Fuller amidships and towards the deck, four digits everywhere.
-fn half_breadth(station: i64, waterline: i64) -> i64 {
-    let from_the_middle = 2 * station - (STATIONS - 1);
-    let along = 1_600 - from_the_middle * from_the_middle;
+fn half_breadth(n: i64, station: i64, waterline: i64) -> i64 {
+    let from_the_middle = 2 * station - n;
+    let along = n * n - from_the_middle * from_the_middle;
     let up = 400 - (WATERLINES - 1 - waterline) * (WATERLINES - 1 - waterline);
-    1_000 + 6_875 * along / 1_600 * (200 + up) / 600
+    1_000 + 6_875 * along / (n * n) * (200 + up) / 600
 }
 
 /// Port and starboard in turn.

@@ -5,11 +5,10 @@ mod steps;
 
 use crate::calculation::{Calculation, CALCULATIONS};
 use crate::calls::Reading;
+use crate::peer::ranges::SHEET_ROOM;
 use std::fs;
 use std::io;
 use std::path::{Path, PathBuf};
-
-const LONGEST_SHEET: usize = 3_173;
 
 /// Runs every calculation over a folder of vectors; answers whether all agree.
 pub fn run(folder: &Path) -> io::Result<bool> {
@@ -59,7 +58,7 @@ fn all_agree(name: &str, kind: &str, inputs: &[PathBuf], make: impl Fn(&[u8]) ->
 }
 
 fn sheet(calculation: &Calculation, reading: Reading, text: &[u8]) -> Option<Vec<u8>> {
-    let mut room = [0; LONGEST_SHEET];
+    let mut room = [0; SHEET_ROOM];
     let length = (calculation.report)(reading, text, &mut room).ok()?;
     Some(room[..length].to_vec())
 }

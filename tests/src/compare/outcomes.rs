@@ -1,6 +1,7 @@
 //! Counts of outcomes by call, and what the papers let come out that never did.
 
 use super::engines::ENGINES;
+use super::lengths::{lengths, LENGTHS, LENGTHS_BY_NUMBERS};
 use super::observation::Observation;
 use super::readings::{flotation, FLOTATIONS, READINGS};
 use super::settled::{Settled, HEELS};
@@ -8,7 +9,7 @@ use super::spellings::{in_text, in_token, IN_TEXTS, IN_TOKENS};
 use crate::calls::{Engine, Refusal, Tally};
 use crate::generate::Call;
 use crate::peer::condition::PRESSED_UP;
-use crate::peer::ranges::{ITEM, TANK};
+use crate::peer::ranges::{ITEM, ITEM_PLACES, LONGEST_FILE, TANK, TANK_PLACES};
 use crate::peer::tally::SLOT_NUMBERS;
 use crate::step::Step;
 use std::cmp::Ordering;
@@ -21,6 +22,7 @@ const REPORT: usize = 0;
 const READ: usize = 1;
 const WRITE: usize = 2;
 const ROWS: usize = 3;
+const SECTIONS: usize = 4;
 const CONDITION: usize = 6;
 const ABOARD: usize = 10;
 const NO_NUMBER: usize = 2;
@@ -39,20 +41,20 @@ const ALLOWED: [&[usize]; CALLS.len()] = [
     &[4, 7, 10, 11, 12, 13, 22],
 ];
 const ROWS_ALLOWED: &[usize] = &[4, 7, 8, 9];
-/// Places that must be seen: of every table whose size a call may refuse, of every number of a step, and of the first
-/// slot, the last and the first beyond.
+/// Places that must be seen: of a file too long, of every table whose size a call may refuse, of the first item and tank,
+/// of every number of a step, and of the first slot, the last and the first beyond.
 const PLACES: [&[(usize, usize)]; CALLS.len()] = [
-    &[],
-    &[(7, 0), (7, 1), (7, 2)],
-    &[(7, 0), (7, 1), (7, 2)],
+    &[(1, LONGEST_FILE), (13, TANK_PLACES)],
+    &[(1, LONGEST_FILE), (7, 0), (7, 1), (7, 2)],
+    &[(4, ITEM_PLACES), (4, TANK_PLACES), (7, 0), (7, 1), (7, 2)],
     ROWS_PLACES,
     ROWS_PLACES,
     &[],
-    &[(7, 1), (7, 2), (7, 3)],
+    &[(4, ITEM_PLACES), (4, TANK_PLACES), (7, 1), (7, 2), (7, 3), (13, TANK_PLACES)],
     &[(4, 0), (4, 1), (4, 2), (4, 3), (15, 32), (16, 0), (16, 31), (22, 0)],
     &[(15, 32), (17, 0), (17, 31), (22, 0)],
     &[(4, 1), (4, 2), (4, 3), (15, 32), (17, 0), (17, 31), (22, 0)],
-    &[(7, 2), (7, 3), (22, 0)],
+    &[(4, TANK_PLACES), (7, 2), (7, 3), (13, TANK_PLACES), (22, 0)],
 ];
 const ROWS_PLACES: &[(usize, usize)] = &[(7, 0), (7, 3)];
 /// By number; those without a name are no call's.
@@ -85,13 +87,15 @@ const VERDICTS: [&str; 2] = ["does not pass", "passes"];
 const SETTLING_CALLS: [usize; 3] = [REPORT, CONDITION, ABOARD];
 const CALLS_BY_READING: [usize; 2] = [REPORT, CONDITION];
 const CALLS_WITH_HULL: [usize; 4] = [REPORT, READ, WRITE, ROWS];
+const CALLS_WITH_TEXT: [usize; 2] = [REPORT, READ];
+const CALLS_WITH_PARTICULARS: [usize; 3] = [WRITE, ROWS, SECTIONS];
 const FILLINGS: [&str; 5] = ["empty", "slack", "at 98 per cent", "above it", "full"];
 const STATES: [&str; 4] = ["empty", "full", "with another mark than 1", "with something in an empty slot"];
 
 /// What came out of one call: 0 or the refusal's number, how the vessel lies and where it floats where that was found,
-/// what the other reading of KM made of it, what both engines made of its hull, how many of the condition's tanks are
-/// filled how, in which states the tally was that a step was answered on, and what editors left in the text that was read
-/// or in its token that is no number.
+/// what the other reading of KM made of it, what both engines made of its hull, how long that is, how many of the
+/// condition's tanks are filled how, in which states the tally was that a step was answered on, and what editors left in
+/// the text that was read or in its token that is no number.
 pub struct Outcome {
     call: usize,
     refusal: usize,
@@ -100,6 +104,7 @@ pub struct Outcome {
     flotation: [bool; FLOTATIONS.len()],
     pub readings: [bool; READINGS.len()],
     pub engines: [bool; ENGINES.len()],
+    lengths: [bool; LENGTHS.len()],
     fillings: [u64; FILLINGS.len()],
     states: [bool; STATES.len()],
     in_text: [bool; IN_TEXTS.len()],
@@ -116,6 +121,7 @@ impl Outcome {
             flotation: Default::default(),
             readings: Default::default(),
             engines: Default::default(),
+            lengths: Default::default(),
             fillings: Default::default(),
             states: Default::default(),
             in_text: Default::default(),
@@ -129,6 +135,7 @@ impl Outcome {
             Some(Err(Refusal { number, place })) => (outcome.refusal, outcome.place) = (number as usize, place),
             None => {}
         }
+        outcome.lengths = lengths(call, outcome.refusal, outcome.place);
         if seen.number == 0 {
             match call {
                 Call::Condition { tanks, .. } => {
@@ -153,7 +160,7 @@ fn index(call: &Call) -> usize {
         Call::Read { .. } => READ,
         Call::Write { .. } => WRITE,
         Call::Rows { engine: Engine::Waterplanes, .. } => ROWS,
-        Call::Rows { engine: Engine::Sections, .. } => 4,
+        Call::Rows { engine: Engine::Sections, .. } => SECTIONS,
         Call::Display { .. } => 5,
         Call::Condition { .. } => CONDITION,
         Call::Step { step: Step::Load { .. }, .. } => 7,
@@ -191,6 +198,7 @@ pub struct Outcomes {
     flotations: [[u64; FLOTATIONS.len()]; CALLS.len()],
     readings: [[u64; READINGS.len()]; CALLS.len()],
     engines: [[u64; ENGINES.len()]; CALLS.len()],
+    lengths: [[u64; LENGTHS.len()]; CALLS.len()],
     /// Those of the places to be seen that were.
     places: BTreeSet<(usize, usize, usize)>,
     fillings: [u64; FILLINGS.len()],
@@ -213,6 +221,7 @@ impl Outcomes {
         count(&mut self.flotations[call], outcome.flotation);
         count(&mut self.readings[call], outcome.readings);
         count(&mut self.engines[call], outcome.engines);
+        count(&mut self.lengths[call], outcome.lengths);
         for (all, here) in self.fillings.iter_mut().zip(outcome.fillings) {
             *all += here;
         }
@@ -229,6 +238,7 @@ impl Outcomes {
         print_group(&FLOTATIONS, &self.flotations);
         print_group(&READINGS, &self.readings);
         print_group(&ENGINES, &self.engines);
+        print_group(&LENGTHS, &self.lengths);
         println!("tanks of conditions: {}", listed(&FILLINGS, &self.fillings));
         println!("tallies of answered steps: {}", listed(&STATES, &self.states));
         println!("texts read with {}", listed(&IN_TEXTS, &self.in_texts));
@@ -265,6 +275,12 @@ impl Outcomes {
         }
         for call in CALLS_WITH_HULL {
             missing.extend(never(CALLS[call], &ENGINES, &self.engines[call]));
+        }
+        for call in CALLS_WITH_TEXT {
+            missing.extend(never(CALLS[call], &LENGTHS, &self.lengths[call]));
+        }
+        for call in CALLS_WITH_PARTICULARS {
+            missing.extend(never(CALLS[call], &LENGTHS[..LENGTHS_BY_NUMBERS], &self.lengths[call]));
         }
         missing.extend(never("tank", &FILLINGS, &self.fillings));
         missing.extend(never("tally", &STATES, &self.states));

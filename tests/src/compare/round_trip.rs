@@ -4,10 +4,7 @@ use super::observation::Observation;
 use crate::calculation::{Calculation, CALCULATIONS};
 use crate::calls::Summary;
 use crate::generate::{Call, FileNumbers};
-
-const FILE_ROOM: usize = 16_384;
-const HALF_BREADTH_ROOM: usize = 861;
-const RECORD_ROOM: usize = 128;
+use crate::peer::ranges::{HALF_BREADTH_ROOM, ITEM, ITEM_ROOM, LONGEST_FILE, TANK, TANK_ROOM};
 
 /// Follows an answered call of reading or writing; others have no way back.
 pub fn examine(call: &Call, answered: &Observation) -> Result<(), String> {
@@ -33,7 +30,7 @@ fn numbers_read(answered: &Observation) -> FileNumbers {
 
 fn writes_and_reads_back(writer: &Calculation, numbers: &FileNumbers) -> Result<(), String> {
     let FileNumbers { particulars, half_breadths, items, tanks } = numbers;
-    let mut room = [0; FILE_ROOM];
+    let mut room = [0; LONGEST_FILE];
     match (writer.write)(particulars, half_breadths, items, tanks, &mut room) {
         Ok(length) => CALCULATIONS.iter().try_for_each(|reader| reads_back(reader, &room[..length], numbers)),
         Err(refusal) => Err(format!("{} does not write what was read: {refusal:?}", writer.name)),
@@ -42,12 +39,12 @@ fn writes_and_reads_back(writer: &Calculation, numbers: &FileNumbers) -> Result<
 
 fn reads_back(reader: &Calculation, text: &[u8], numbers: &FileNumbers) -> Result<(), String> {
     let mut half_breadths = [0; HALF_BREADTH_ROOM];
-    let (mut items, mut tanks) = ([0; RECORD_ROOM], [0; RECORD_ROOM]);
+    let (mut items, mut tanks) = ([0; ITEM_ROOM], [0; TANK_ROOM]);
     let summary = (reader.read)(text, &mut half_breadths, &mut items, &mut tanks)
         .map_err(|refusal| format!("{} does not read what was written: {refusal:?}", reader.name))?;
     let same = summary.particulars == numbers.particulars
-        && summary.items as usize * 4 == numbers.items.len()
-        && summary.tanks as usize * 8 == numbers.tanks.len()
+        && summary.items as usize * ITEM.len() == numbers.items.len()
+        && summary.tanks as usize * TANK.len() == numbers.tanks.len()
         && half_breadths.starts_with(&numbers.half_breadths)
         && items.starts_with(&numbers.items)
         && tanks.starts_with(&numbers.tanks);

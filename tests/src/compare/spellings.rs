@@ -1,9 +1,17 @@
-//! What editors leave in a text: in one that is read, and in a token that is no number.
+//! What editors leave in a text: in one that is read, with how long it is, and in a token that is no number.
 
 use crate::generate::{MOST_DIGITS, SEPARATORS};
+use crate::peer::ranges::LONGEST_FILE;
 
-pub const IN_TEXTS: [&str; 5] =
-    ["a tab", "a carriage return", "a padded number", "a padded negative number", "a number padded to nine digits"];
+pub const IN_TEXTS: [&str; 7] = [
+    "a tab",
+    "a carriage return",
+    "a padded number",
+    "a padded negative number",
+    "a number padded to nine digits",
+    "over half of the most bytes",
+    "the most bytes",
+];
 pub const IN_TOKENS: [&str; 4] = [
     "a minus before zeros alone",
     "ten digits with zeros in front",
@@ -20,6 +28,8 @@ pub fn in_text(text: &[u8]) -> [bool; IN_TEXTS.len()] {
         padded().any(|token| !is_negative(token)),
         padded().any(is_negative),
         padded().any(|token| digits(token).len() == MOST_DIGITS),
+        text.len() > LONGEST_FILE / 2,
+        text.len() == LONGEST_FILE,
     ]
 }
 
@@ -38,7 +48,7 @@ pub fn in_token(text: &[u8], place: usize) -> [bool; IN_TOKENS.len()] {
     ]
 }
 
-fn tokens(text: &[u8]) -> impl Iterator<Item = &[u8]> {
+pub fn tokens(text: &[u8]) -> impl Iterator<Item = &[u8]> {
     text.split(|byte| SEPARATORS.contains(byte))
 }
 
@@ -57,6 +67,6 @@ fn is_padded(token: &[u8]) -> bool {
 }
 
 /// Whether these are digits, and no more than a number has.
-fn are_few_digits(bytes: &[u8]) -> bool {
+pub fn are_few_digits(bytes: &[u8]) -> bool {
     bytes.len() <= MOST_DIGITS && bytes.iter().all(u8::is_ascii_digit)
 }

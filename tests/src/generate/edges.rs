@@ -1,9 +1,13 @@
 //! Numbers at and beyond the ends of a range, and tables of a wrong size.
 
 use super::random::Random;
-use crate::peer::ranges::Range;
+use crate::peer::ranges::{Range, TANK};
+use crate::peer::ranges::{HALF_BREADTH_ROOM, ITEM_ROOM, MOST_ITEMS, MOST_ROWS, MOST_TANKS, ROW_ROOM, TANK_ROOM};
 
 const TWO_TO_THE_32: i64 = 1 << 32;
+/// As many records as some table may have, and more.
+const RECORDS: [usize; 8] =
+    [1, MOST_TANKS, MOST_TANKS + 1, MOST_ROWS, MOST_ROWS + 1, MOST_ITEMS, MOST_ITEMS + 1, MOST_ITEMS + 2];
 
 /// A number at an end of the range, one beyond it, or far beyond; some agree with the old number in their low bits.
 pub fn edge(random: &mut Random, range: Range, number: i64) -> i64 {
@@ -44,8 +48,8 @@ pub fn damage_size<T: Copy + Default>(random: &mut Random, table: &mut Vec<T>, r
         2 | 3 => length.saturating_sub(1),
         4 => length + record,
         5 => length.saturating_sub(record),
-        6 => record * random.pick(&[1, 16, 17, 19, 20, 32, 33, 34]),
-        _ => random.pick(&[0, 1, 2 * length, 128, 133, 136, 861]),
+        6 => record * random.pick(&RECORDS),
+        _ => random.pick(&[0, 1, 2 * length, ITEM_ROOM, ROW_ROOM, TANK_ROOM + TANK.len(), HALF_BREADTH_ROOM]),
     };
     let last = table.last().copied().unwrap_or_default();
     table.resize(size, last);

@@ -1,7 +1,7 @@
 //! Hulls within the ranges of a file: ships, boxes, wedges, random lines, and those that rows refuse.
 
 use super::random::Random;
-use crate::peer::ranges::{Range, HALF_BREADTH, PARTICULARS};
+use crate::peer::ranges::{Range, HALF_BREADTH, INTERVALS, LONGEST_HULL, PARTICULARS, STATION_SPACING};
 
 pub struct Hull {
     pub particulars: [u64; 5],
@@ -17,6 +17,7 @@ enum Shape {
     Ragged,
     /// Least or greatest at each place.
     Extremes,
+    /// Full breadth, half of the time as long, as deep and in as dense water as may be.
     Widest,
     /// Nothing but one waterline.
     Ledge,
@@ -55,7 +56,8 @@ const SHAPES: [Shape; 19] = [
 
 pub fn hull(random: &mut Random) -> Hull {
     let [n, m] = intervals(random);
-    let [_, _, s, d, density] = PARTICULARS;
+    let [_, _, _, d, density] = PARTICULARS;
+    let s = station_spacings(n);
     let mut particulars = [n, m, spacing(random, s), spacing(random, d), spacing(random, density)];
     let shape = if random.one_in(60) { Shape::Nothing } else { random.pick(&SHAPES) };
     let lines = Lines::of(random, shape, &mut particulars);
@@ -69,14 +71,36 @@ pub fn hull(random: &mut Random) -> Hull {
     Hull { particulars: particulars.map(|number| number as u64), half_breadths }
 }
 
-/// Intervals of length and of draft: mostly few, some of any number, now and then the most.
+/// Intervals of length and of draft: mostly few, some of any number, now and then the most, also of length alone.
 fn intervals(random: &mut Random) -> [i64; 2] {
     let [n, m, ..] = PARTICULARS;
+    let half = n.greatest / 2;
     match random.below(32) {
         0 => [n.greatest, m.greatest],
         1..=3 => [random.between(n.least, n.greatest), random.between(m.least, m.greatest)],
+        4 | 5 => [random.pick(&[half, half + 1, n.greatest - 1, n.greatest]), random.between(m.least, 7)],
         _ => [random.between(n.least, 7), random.between(m.least, 7)],
     }
+}
+
+/// The mm between stations at which so many intervals are not too long.
+fn station_spacings(intervals: i64) -> Range {
+    let spacings = PARTICULARS[STATION_SPACING];
+    Range { greatest: spacings.greatest.min(LONGEST_HULL as i64 / intervals), ..spacings }
+}
+
+/// Moves the stations of a hull as far apart as may be, or further; with too few intervals for that it gets more.
+pub fn stretch(random: &mut Random, particulars: &mut [u64; 5]) {
+    let [most, widest] = [INTERVALS, STATION_SPACING].map(|i| PARTICULARS[i].greatest);
+    let fewest = LONGEST_HULL as i64 / widest + 1;
+    let mut n = particulars[INTERVALS] as i64;
+    if !(fewest..=most).contains(&n) {
+        n = random.between(fewest, most);
+    }
+    let longest = station_spacings(n).greatest;
+    let any = random.between(longest + 1, widest);
+    particulars[INTERVALS] = n as u64;
+    particulars[STATION_SPACING] = random.pick(&[longest, longest + 1, longest + 1, any, any, widest]) as u64;
 }
 
 /// A particular at an end of its range or anywhere in it.
@@ -109,6 +133,11 @@ impl Lines {
             Shape::HighMetacentre => {
                 particulars[3] = random.between(10, 100);
                 breadth = (300_000 * particulars[3] * 2).isqrt() + random.between(-2, 2);
+            }
+            Shape::Widest if random.one_in(2) => {
+                particulars[2] = station_spacings(n).greatest;
+                particulars[3] = PARTICULARS[3].greatest;
+                particulars[4] = PARTICULARS[4].greatest;
             }
             _ => {}
         }

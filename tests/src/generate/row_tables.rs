@@ -4,7 +4,7 @@ use super::edges::edge;
 use super::hulls::{hull, Hull};
 use super::random::Random;
 use crate::peer;
-use crate::peer::ranges::{MOST_ROWS, ROW};
+use crate::peer::ranges::{ROW, ROW_ROOM};
 
 const NUMBERS: usize = ROW.len();
 /// Where the numbers that hang together stand in a row.
@@ -18,7 +18,7 @@ pub const KM: usize = 5;
 pub fn usable(random: &mut Random) -> Vec<u64> {
     if random.one_in(2) {
         let Hull { particulars, half_breadths } = hull(random);
-        let mut table = [0; MOST_ROWS * NUMBERS];
+        let mut table = [0; ROW_ROOM];
         if let Ok(count) = peer::rows(&half_breadths, &particulars, &mut table) {
             return table[..count * NUMBERS].to_vec();
         }

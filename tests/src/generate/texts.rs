@@ -3,9 +3,9 @@
 use super::layouts::{put_padded, Layout, MOST_DIGITS, SEPARATORS};
 use super::random::Random;
 use super::FileNumbers;
-use crate::peer::ranges::{Range, HALF_BREADTH, ITEM, MOST_ITEMS, MOST_TANKS, PARTICULARS, TANK};
+use crate::peer::ranges::{is_too_long, Range, HALF_BREADTH, ITEM, PARTICULARS, TANK};
+use crate::peer::ranges::{LONGEST_FILE, MOST_ITEMS, MOST_TANKS};
 
-const LONGEST_FILE: usize = 16_384;
 /// Widths that leave a padded number none: one digit too many, mostly.
 const TOO_MANY_DIGITS: [usize; 4] = [MOST_DIGITS + 1, MOST_DIGITS + 1, MOST_DIGITS + 2, 20];
 
@@ -67,6 +67,9 @@ struct Word {
     instead: Option<Vec<u8>>,
 }
 
+/// The particulars with the counts before and after them.
+const FIRST_WORDS: usize = 1 + PARTICULARS.len() + 1;
+
 /// The file's text with so many things wrong.
 pub fn text(random: &mut Random, numbers: &FileNumbers, damages: u64) -> Vec<u8> {
     if damages > 0 && random.one_in(30) {
@@ -75,13 +78,15 @@ pub fn text(random: &mut Random, numbers: &FileNumbers, damages: u64) -> Vec<u8>
     let mut words = words(numbers);
     let in_words = random.below(damages + 1);
     for _ in 0..in_words {
-        damage_word(random, &mut words);
+        // what is wrong further back is not seen where the hull is too long
+        let among_first = is_too_long(&numbers.particulars) || random.one_in(3);
+        damage_word(random, &mut words, if among_first { FIRST_WORDS } else { usize::MAX });
     }
     let mut text = laid_out(random, &words);
     for _ in in_words..damages {
         damage_bytes(random, &mut text);
     }
-    if random.one_in(60) {
+    if random.one_in(40) {
         lengthen(random, &mut text);
     }
     text
@@ -107,20 +112,21 @@ fn section(words: &mut Vec<Word>, count: usize, counts: Range, numbers: impl Ite
     words.extend(numbers.zip(ranges).map(|(number, &range)| Word { number, range, instead: None }));
 }
 
-fn damage_word(random: &mut Random, words: &mut Vec<Word>) {
+/// Damages one of so many words, or of all if they are fewer.
+fn damage_word(random: &mut Random, words: &mut Vec<Word>, among: usize) {
     if words.is_empty() {
         return;
     }
-    let among = if random.one_in(3) { words.len().min(7) } else { words.len() };
-    let at = random.index(among);
+    let at = random.index(words.len().min(among));
     let Range { least, greatest } = words[at].range;
-    match random.below(11) {
+    match random.below(12) {
         0..=2 => words[at].instead = Some(odd_token(random)),
         3..=5 => words[at].number = random.pick(&[least - 1, least, greatest, greatest + 1, -greatest]),
         6 => words[at].number = random.between(-999_999_999, 999_999_999),
         7 => drop(words.remove(at)),
         8 => words.insert(at, Word { number: random.between(0, 40), range: words[at].range, instead: None }),
         9 => words[at].instead = Some(padded_too_far(random, words[at].number)),
+        10 => words.truncate(at),
         _ => {
             let instead = if random.one_in(2) { Some(odd_token(random)) } else { None };
             words.push(Word { number: random.between(-5, 5), range: words[at].range, instead });
@@ -183,10 +189,12 @@ fn damage_bytes(random: &mut Random, text: &mut Vec<u8>) {
     }
 }
 
-/// Fills up with separators to the greatest length, to one more, or beyond: in front, behind, or inside.
+/// Fills up with separators to the greatest length or half of it, to one less or more, or beyond: in front, behind, or
+/// inside.
 fn lengthen(random: &mut Random, text: &mut Vec<u8>) {
-    let beyond = LONGEST_FILE + random.index(LONGEST_FILE);
-    let length = random.pick(&[LONGEST_FILE - 1, LONGEST_FILE, LONGEST_FILE, LONGEST_FILE + 1, beyond]);
+    let whole = random.pick(&[LONGEST_FILE, LONGEST_FILE, LONGEST_FILE / 2]);
+    let beyond = whole + random.index(whole);
+    let length = random.pick(&[whole - 1, whole, whole, whole + 1, beyond]);
     let inside = text.iter().position(|byte| SEPARATORS.contains(byte)).unwrap_or(0);
     let at = random.pick(&[0, inside, text.len()]);
     let separator = random.pick(&SEPARATORS);

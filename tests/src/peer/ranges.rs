@@ -1,4 +1,5 @@
-//! The paper's ranges, and the search of a lent table for its first number outside them.
+//! The paper's limits, each stated once for all of the tests, and the search of a lent table for its first number outside
+//! its range.
 
 use super::{refusals, refuse, size_is_right, tables};
 use crate::calls::Refusal;
@@ -30,7 +31,11 @@ const Y: Range = range(-10_000, 10_000);
 const Z: Range = range(0, 30_000);
 
 /// Intervals of length and of draft, mm between stations and between waterlines, water density.
-pub const PARTICULARS: [Range; 5] = [range(2, 40), range(3, 20), range(50, 2_500), range(10, 500), range(900, 1_100)];
+pub const PARTICULARS: [Range; 5] = [range(2, 80), range(3, 20), range(50, 2_500), range(10, 500), range(900, 1_100)];
+/// Where those two stand among the particulars that make the hull's length, and the most mm that it may have.
+pub const INTERVALS: usize = 0;
+pub const STATION_SPACING: usize = 2;
+pub const LONGEST_HULL: u64 = 100_000;
 pub const HALF_BREADTH: Range = range(0, 8_000);
 pub const ITEM: [Range; 4] = [range(0, 300_000), X, Y, Z];
 /// Contents, capacity, x, y, z, length, breadth, liquid density.
@@ -49,19 +54,33 @@ pub const ROW: [Range; 7] = [
 
 pub const MOST_ITEMS: usize = 32;
 pub const MOST_TANKS: usize = 16;
-pub const MOST_INTERVALS: usize = 40;
-pub const MOST_WATERLINES: usize = 21;
-pub const MOST_ROWS: usize = 19;
-pub const MOST_HALF_BREADTHS: usize = (MOST_INTERVALS + 1) * MOST_WATERLINES;
+pub const MOST_INTERVALS: usize = PARTICULARS[INTERVALS].greatest as usize;
+pub const MOST_WATERLINES: usize = PARTICULARS[1].greatest as usize + 1;
+pub const MOST_ROWS: usize = MOST_WATERLINES - 2;
+
+/// Bytes that a file may have.
+pub const LONGEST_FILE: usize = 32_768;
+
+/// Room that is never too short: for the numbers of a file, for the rows of a hull and, as the header has it, for a sheet.
+pub const HALF_BREADTH_ROOM: usize = (MOST_INTERVALS + 1) * MOST_WATERLINES;
+pub const ITEM_ROOM: usize = MOST_ITEMS * ITEM.len();
+pub const TANK_ROOM: usize = MOST_TANKS * TANK.len();
+pub const ROW_ROOM: usize = MOST_ROWS * ROW.len();
+pub const SHEET_ROOM: usize = 3_173;
 
 /// Where the numbers of each lent table start among the places of refusal 4.
 pub const HALF_BREADTH_PLACES: usize = 5;
-pub const ITEM_PLACES: usize = 1_000;
-pub const TANK_PLACES: usize = 2_000;
+pub const ITEM_PLACES: usize = 3_000;
+pub const TANK_PLACES: usize = 4_000;
 
 /// How many half-breadths these particulars, within their ranges, ask for.
 pub fn half_breadth_count(particulars: &[u64; 5]) -> usize {
-    (particulars[0] as usize + 1) * (particulars[1] as usize + 1)
+    (particulars[INTERVALS] as usize + 1) * (particulars[1] as usize + 1)
+}
+
+/// Whether these particulars, within their ranges, make a hull that is too long.
+pub fn is_too_long(particulars: &[u64; 5]) -> bool {
+    particulars[INTERVALS] * particulars[STATION_SPACING] > LONGEST_HULL
 }
 
 /// The index of the first of `numbers` outside its own range.
@@ -69,9 +88,11 @@ pub fn first_outside<const N: usize>(numbers: &[u64; N], ranges: &[Range; N]) ->
     (0..N).find(|&i| !ranges[i].has_whole(numbers[i]))
 }
 
+/// Tries the particulars for refusal 4: each by its range, then the length they make, at mm between stations.
 pub fn try_particulars(particulars: &[u64; 5]) -> Result<(), Refusal> {
     match first_outside(particulars, &PARTICULARS) {
         Some(i) => refuse(refusals::RANGE, i),
+        None if is_too_long(particulars) => refuse(refusals::RANGE, STATION_SPACING),
         None => Ok(()),
     }
 }

@@ -1,19 +1,16 @@
 //! Reads an offset file: tokens left to right, into tables of the call's own, copied when nothing is left to refuse.
 
-use super::ranges::{half_breadth_count, Range, HALF_BREADTH, ITEM, PARTICULARS, TANK};
-use super::ranges::{MOST_HALF_BREADTHS, MOST_ITEMS, MOST_TANKS};
+use super::ranges::{half_breadth_count, is_too_long, Range, HALF_BREADTH, ITEM, PARTICULARS, STATION_SPACING, TANK};
+use super::ranges::{HALF_BREADTH_ROOM, ITEM_ROOM, LONGEST_FILE, MOST_ITEMS, MOST_TANKS, TANK_ROOM};
 use super::{refusals, refuse, size_is_right, tables};
 use crate::calls::{Refusal, Summary};
 
-const LONGEST_FILE: usize = 16_384;
 const MOST_DIGITS: usize = 9;
-const ITEM_ROOM: usize = MOST_ITEMS * ITEM.len();
-const TANK_ROOM: usize = MOST_TANKS * TANK.len();
 
 /// The numbers of a file, in room for the largest.
 pub struct OffsetFile {
     pub particulars: [u64; 5],
-    half_breadths: [u64; MOST_HALF_BREADTHS],
+    half_breadths: [u64; HALF_BREADTH_ROOM],
     items: [i64; ITEM_ROOM],
     tanks: [i64; TANK_ROOM],
     half_breadth_count: usize,
@@ -25,7 +22,7 @@ impl OffsetFile {
     pub fn blank() -> Self {
         OffsetFile {
             particulars: [0; 5],
-            half_breadths: [0; MOST_HALF_BREADTHS],
+            half_breadths: [0; HALF_BREADTH_ROOM],
             items: [0; ITEM_ROOM],
             tanks: [0; TANK_ROOM],
             half_breadth_count: 0,
@@ -52,10 +49,7 @@ impl OffsetFile {
             return refuse(refusals::FILE_TOO_LONG, LONGEST_FILE);
         }
         let mut tokens = Tokens { text, next: 0 };
-        tokens.count(PARTICULARS.len(), PARTICULARS.len())?;
-        for (number, range) in self.particulars.iter_mut().zip(PARTICULARS) {
-            *number = tokens.number_in(range)? as u64;
-        }
+        self.take_particulars(&mut tokens)?;
         let half_breadths = half_breadth_count(&self.particulars);
         self.half_breadth_count = tokens.count(half_breadths, half_breadths)?;
         for number in &mut self.half_breadths[..half_breadths] {
@@ -64,6 +58,20 @@ impl OffsetFile {
         self.item_count = tokens.records(&mut self.items, &ITEM, MOST_ITEMS)?;
         self.tank_count = tokens.records(&mut self.tanks, &TANK, MOST_TANKS)?;
         tokens.end()
+    }
+
+    /// Takes the first section. The length that it makes is tried when all five numbers are read.
+    fn take_particulars(&mut self, tokens: &mut Tokens) -> Result<(), Refusal> {
+        tokens.count(PARTICULARS.len(), PARTICULARS.len())?;
+        let mut places = [0; PARTICULARS.len()];
+        for (i, range) in PARTICULARS.into_iter().enumerate() {
+            places[i] = tokens.start();
+            self.particulars[i] = tokens.number_in(range)? as u64;
+        }
+        if is_too_long(&self.particulars) {
+            return refuse(refusals::RANGE, places[STATION_SPACING]);
+        }
+        Ok(())
     }
 }
 
@@ -159,7 +167,7 @@ impl Tokens<'_> {
 
 /// Reads an offset file into the lent tables, each with room for the largest file.
 pub fn read(text: &[u8], half_breadths: &mut [u64], items: &mut [i64], tanks: &mut [i64]) -> Result<Summary, Refusal> {
-    size_is_right(half_breadths.len() >= MOST_HALF_BREADTHS, tables::HALF_BREADTHS)?;
+    size_is_right(half_breadths.len() >= HALF_BREADTH_ROOM, tables::HALF_BREADTHS)?;
     size_is_right(items.len() >= ITEM_ROOM, tables::ITEMS)?;
     size_is_right(tanks.len() >= TANK_ROOM, tables::TANKS)?;
     let mut file = OffsetFile::blank();

@@ -4,7 +4,7 @@
 //! waterline to the next, and an odd waterline adds the second rule to the sum three intervals below it.
 
 use super::ranges::{half_breadth_count, try_half_breadths, try_particulars};
-use super::ranges::{MOST_INTERVALS, MOST_ROWS, MOST_WATERLINES, ROW};
+use super::ranges::{MOST_INTERVALS, MOST_WATERLINES, ROW, ROW_ROOM};
 use super::{refusals, refuse, size_is_right, tables};
 use crate::calls::Refusal;
 
@@ -18,7 +18,6 @@ const AREA_DIVISOR: u64 = 12;
 const HIGHEST_KM: u64 = ROW[5].greatest as u64;
 
 pub const ROW_NUMBERS: usize = ROW.len();
-pub const ROW_ROOM: usize = MOST_ROWS * ROW_NUMBERS;
 
 /// The rows of a hull into the lent table; answers how many rows.
 pub fn rows(half_breadths: &[u64], particulars: &[u64; 5], rows: &mut [u64]) -> Result<usize, Refusal> {

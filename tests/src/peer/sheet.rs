@@ -2,9 +2,9 @@
 
 use super::condition::condition;
 use super::pen::Pen;
-use super::ranges::MOST_ROWS;
+use super::ranges::{MOST_ROWS, ROW_ROOM};
 use super::reader::OffsetFile;
-use super::rows::{fill_rows, ROW_NUMBERS, ROW_ROOM};
+use super::rows::{fill_rows, ROW_NUMBERS};
 use crate::calls::{Condition, Heel, Reading, Refusal};
 
 /// Every number at its greatest length; an E line is shorter than a C line.

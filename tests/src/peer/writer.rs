@@ -2,23 +2,35 @@
 
 use super::pen::Pen;
 use super::ranges::{half_breadth_count, try_half_breadths, try_particulars, try_record_sizes, try_records};
-use super::ranges::{ITEM, ITEM_PLACES, MOST_HALF_BREADTHS, MOST_ITEMS, MOST_TANKS, TANK, TANK_PLACES};
+use super::ranges::{Range, HALF_BREADTH, ITEM, PARTICULARS, TANK};
+use super::ranges::{HALF_BREADTH_ROOM, ITEM_PLACES, MOST_ITEMS, MOST_TANKS, TANK_PLACES};
 use super::{size_is_right, tables};
 use crate::calls::Refusal;
 
 /// Every number at its greatest length.
-const LONGEST_COUNTS: usize = "5\n861\n32\n16\n".len();
-const LONGEST_PARTICULARS: usize = "40 20 2500 500 1100\n".len();
-const LONGEST_HALF_BREADTH: usize = "8000 ".len();
-const LONGEST_ITEM: usize = "300000 100000 -10000 30000\n".len();
-const LONGEST_TANK: usize = "400000 400000 100000 -10000 30000 10000 8000 1500\n".len();
-const LONGEST_TEXT: usize = LONGEST_COUNTS
-    + LONGEST_PARTICULARS
-    + MOST_HALF_BREADTHS * LONGEST_HALF_BREADTH
-    + MOST_ITEMS * LONGEST_ITEM
-    + MOST_TANKS * LONGEST_TANK;
+const LONGEST_TEXT: usize = longest_section(1, &PARTICULARS)
+    + longest_section(HALF_BREADTH_ROOM, &[HALF_BREADTH])
+    + longest_section(MOST_ITEMS, &ITEM)
+    + longest_section(MOST_TANKS, &TANK);
 
 type FilePen = Pen<LONGEST_TEXT>;
+
+/// The bytes of so many records and of their count.
+const fn longest_section(records: usize, ranges: &[Range]) -> usize {
+    let mut record = 0;
+    let mut i = 0;
+    while i < ranges.len() {
+        record += longest_number(ranges[i]);
+        i += 1;
+    }
+    records * record + longest_number(Range { least: 0, greatest: records as i64 })
+}
+
+/// The bytes of a range's longest number: a minus, if it has one, the digits, and what stands after them.
+const fn longest_number(range: Range) -> usize {
+    let minus = if range.least < 0 { 1 } else { 0 };
+    minus + range.greatest.ilog10() as usize + 1 + 1
+}
 
 /// Writes an offset file into the lent room; answers the bytes of its text.
 pub fn write(
