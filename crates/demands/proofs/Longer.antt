@@ -3,22 +3,30 @@
 -- Assumes nothing.
 use mathlib.Core.Path.{_≡_, refl, sym, _∙_}
 use mathlib.Core.Bool.{true}
+use mathlib.Core.List.{List}
 use Prim.Native.Nat.{ℕ, zero, suc, _*_, _%_, _≤_, _<_}
 use native.Mathlib.Omega.{arith}
 use borrow.Author.Tests.{lt-ltb, le-ltb}
-use lib.IntN.{pos}
+use lib.IntN.{ℤ, pos}
 use lib.ListN.{length, getD}
 use Rattle.ranges.specs.Fields.{_to_, within, particulars}
 use Rattle.ranges.specs.Limits.{Limits, limits}
+use Rattle.ranges.specs.Outcome.{refused}
 use Rattle.ranges.specs.Outside.{firstOutside, numbersOf, tooLong, badParticular}
 use Rattle.ranges.specs.declared.Particulars.{Particulars}
 use Rattle.ranges.proofs.Facts.{all-inside, whole-within, particulars-in-range}
-use Rattle.ranges.proofs.Hulls.{bad-length, bad-none}
+use Rattle.ranges.proofs.Hulls.{bad-outside, bad-length, bad-none}
 use Rattle.ranges.proofs.Longer.{Longer}
+use Rattle.offsets.specs.Back.{RoomForAnyFile}
+use Rattle.offsets.specs.File.{file}
+use Rattle.offsets.specs.Reader.{Reads}
+use Rattle.offsets.specs.Tokens.{tokens}
+use Rattle.offsets.specs.declared.Read.{Read}
+use Rattle.offsets.specs.declared.Read.the-variants.{Refused}
 use Rattle.offsets.proofs.Answers.{past-sizes, refusal, too-long}
 use Rattle.offsets.proofs.WasRead.{reads-contents}
 use Rattle.offsets.proofs.Longer.{read-still}
-use Rattle.offsets.proofs.Particulars.{refused-at-spacing}
+use Rattle.offsets.proofs.Particulars.{refused-before, refused-at-spacing}
 use Rattle.writer.proofs.Tried.{refuses-particular}
 use Rattle.writer.proofs.WholeText.{writes-refused}
 use Rattle.offsets.proofs.Unique.{reads-unique}
@@ -67,6 +75,13 @@ module _ (p : Particulars) where
     at-spacing : 100_000 < p .n * p .s → badParticular p ≡ 2
     at-spacing h = bad-length limits p (omega (arith, all-five five)) (long-is h)
 
+-- what a file of allowed length is refused for, the reader answers
+file-refuses : {text h₀ h′ : List ℕ} {i₀ i′ t₀ t′ : List ℤ} {answer : Read} {why place : ℕ} → RoomForAnyFile h₀ i₀ t₀ → length text ≤ 32_768 → file (length text) (tokens text) ≡ refused why place → Reads text h₀ h′ i₀ i′ t₀ t′ answer
+    → answer ≡ Refused (record { number = why; place = place })
+file-refuses {text} {h₀} {i₀ = i₀} {t₀ = t₀} rooms short said reads =
+    let opened = past-sizes text (length h₀) (length i₀) (length t₀) (rooms .half-breadth-room) (rooms .item-room) (rooms .tank-room) short in
+    reads-unique reads (refusal text h₀ i₀ t₀ _ _ (opened ∙ said)) .0
+
 pub longer-tables : LongerTables
 longer-tables = record {
   hulls-taken = λ p. (λ none. five-of p (omega (arith, none)), λ so. short-is p (so .0) (so .1));
@@ -74,9 +89,10 @@ longer-tables = record {
       makes-rows-unique made (refuses (bad-particular halfBreadths p (length rows) (sym (at-spacing p five long)) (omega arith)) refl);
   too-long-for-the-writer = λ {p} {halfBreadths} {items} {tanks} {room} five long writes.
       writes-unique writes (writes-refused (refuses-particular p halfBreadths items tanks (length room) (sym (at-spacing p five long)) (omega arith)) refl);
-  too-long-for-the-reader = λ {text} {h₀} {i₀ = i₀} {t₀ = t₀} {p = p} rooms short begins five long reads.
-      let opened = past-sizes text (length h₀) (length i₀) (length t₀) (rooms .half-breadth-room) (rooms .item-room) (rooms .tank-room) short in
-      reads-unique reads (refusal text h₀ i₀ t₀ _ _ (opened ∙ refused-at-spacing (length text) p begins (omega (arith, all-five p five)) (long-is p five long))) .0;
+  too-long-for-the-reader = λ {text} {p = p} rooms short begins five long reads.
+      file-refuses rooms short (refused-at-spacing (length text) p begins (omega (arith, all-five p five)) (long-is p five long)) reads;
+  ranges-come-first = λ p out. bad-outside limits p out;
+  particulars-come-first = λ {text} rooms short begins read reads. file-refuses rooms short (refused-before (length text) begins read) reads;
   too-many-bytes = λ {text} {h₀} {i₀ = i₀} {t₀ = t₀} rooms long reads. reads-unique reads (too-long text h₀ i₀ t₀ (rooms .half-breadth-room) (rooms .item-room) (rooms .tank-room) long) .0;
   room-and-places = (refl, refl, refl);
   files-read-alike = λ {text = text} {h₀ = h₀} {i₀ = i₀} {t₀ = t₀} {c = c} shorter h i t then-read rooms reads.

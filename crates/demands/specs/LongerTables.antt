@@ -7,14 +7,15 @@ use lib.IntN.{ℤ, pos, natAbs}
 use lib.ListN.{length}
 use Rattle.ranges.specs.Fields.{particulars}
 use Rattle.ranges.specs.Limits.{Limits, limits}
-use Rattle.ranges.specs.Outcome.{answered}
-use Rattle.ranges.specs.Outside.{badParticular, badParticularBy}
+use Rattle.ranges.specs.Outcome.{answered, refused}
+use Rattle.ranges.specs.Outside.{firstOutside, numbersOf, badParticular, badParticularBy}
 use Rattle.ranges.specs.Refusals.{placeOfItems, placeOfTanks}
 use Rattle.ranges.specs.Sizes.{roomForHalfBreadths}
 use Rattle.ranges.specs.declared.Particulars.{Particulars}
 use Rattle.offsets.specs.Back.{RoomForAnyFile, ReadBack}
 use Rattle.offsets.specs.File.{Contents}
 use Rattle.offsets.specs.Reader.{readerBy, summaryOf, Reads}
+use Rattle.offsets.specs.Reading.{numbers}
 use Rattle.offsets.specs.Tokens.{Token, number, tokens}
 use Rattle.writer.specs.Writer.{Writes}
 use Rattle.offsets.specs.declared.Read.{Read}
@@ -53,6 +54,11 @@ pub record LongerTables : Type 0 where
       → tokens text ≡ number count (pos 5) ∷ number n (pos (p .n)) ∷ number m (pos (p .m)) ∷ number s (pos (p .s)) ∷ number d (pos (p .d)) ∷ number density (pos (p .density)) ∷ rest
       → FiveInRange p → 100_000 < p .n * p .s → Reads text h₀ h′ i₀ i′ t₀ t′ answer
       → answer ≡ Read.Refused (record { number = 4; place = s })
+  -- "after all five ranges": what refuses one of the five refuses them, however long their hull; in the reader also what is no number, and the file's end
+  pub ranges-come-first : (p : Particulars) → firstOutside particulars (numbersOf p) < length particulars → badParticular p ≡ firstOutside particulars (numbersOf p)
+  pub particulars-come-first : {text h₀ h′ : List ℕ} {i₀ i′ t₀ t′ : List ℤ} {answer : Read} {count why place : ℕ} {five-on : List Token} → RoomForAnyFile h₀ i₀ t₀ → length text ≤ 32_768
+      → tokens text ≡ number count (pos 5) ∷ five-on → numbers (length text) particulars five-on ≡ refused why place → Reads text h₀ h′ i₀ i′ t₀ t′ answer
+      → answer ≡ Read.Refused (record { number = why; place = place })
   -- "1 now speaks of 32,768 bytes, its place too"
   pub too-many-bytes : {text h₀ h′ : List ℕ} {i₀ i′ t₀ t′ : List ℤ} {answer : Read} → RoomForAnyFile h₀ i₀ t₀ → 32_768 < length text → Reads text h₀ h′ i₀ i′ t₀ t′ answer
       → answer ≡ Read.Refused (record { number = 1; place = 32_768 })

@@ -5,6 +5,7 @@
 --     place-read                                after numbers that were read it is that of the token by its number
 --     hull-refused, hull-long, hull-short       what numbers that were read, or refused, make of the particulars
 --     hull-passed, hull-at                      after a step
+--     refused-before                            a file whose particulars are refused before their length is tried
 --     refused-at-spacing                        a file that begins with five particulars in range, of a hull that is too long
 -- Assumes nothing.
 use mathlib.Core.Path.{_≡_, refl, sym, ap, _∙_}
@@ -117,6 +118,10 @@ module _ (text : List ℕ) (step : Step) (after : List ℤ) where
 
   pub hull-at : (k next : ℕ) → step ≡ S.At k next → (r : Step) → HullFrom text next after r → HullAfter text step after r
   hull-at k next e r h = from-place text step k next e (hullBy (length text) limits) ∙ h
+
+pub refused-before : (len : ℕ) {ts five-on : List Token} {count why place : ℕ} → ts ≡ number count (pos (length particulars)) ∷ five-on → numbers len particulars five-on ≡ refused why place → file len ts ≡ refused why place
+unfolding fileBy hullBy Reading.count one andThen if_then_else_
+refused-before len e r = rw (e, whole-within (length particulars) (length particulars) (length particulars) (omega arith, omega arith), r)
 
 pub refused-at-spacing : (len : ℕ) (p : Particulars) {ts : List Token} {count n m s d density : ℕ} {rest : List Token}
     → ts ≡ number count (pos (length particulars)) ∷ number n (pos (p .n)) ∷ number m (pos (p .m)) ∷ number s (pos (p .s)) ∷ number d (pos (p .d)) ∷ number density (pos (p .density)) ∷ rest
