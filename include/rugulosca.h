@@ -21,17 +21,25 @@
 extern "C" {
 #endif
 
-/* The most bytes of a file. */
-enum { RUGULOSCA_LONGEST_FILE = 32768 };
-
-/* Room that is never too short: for a sheet, for the numbers of a file, and for the rows of a hull; for a file's text
- * that is written, so much as a file may have. */
+/* Room that is never too short: for a file's text, read or written, for a sheet, for the numbers of a file, and for the
+ * rows of a hull. */
 enum {
+    RUGULOSCA_LONGEST_FILE = 32768,
     RUGULOSCA_LONGEST_SHEET = 3173,
     RUGULOSCA_HALF_BREADTH_ROOM = 1701,
     RUGULOSCA_ITEM_ROOM = 128,
     RUGULOSCA_TANK_ROOM = 128,
     RUGULOSCA_ROW_ROOM = 133
+};
+
+/* The place of a number out of range (4), outside the reader: 0 to 4 a particular, and the others from these on. A hull
+ * longer than 100,000 mm, all its particulars in range, has 4 at the spacing of its stations. Contents above capacity
+ * (13) have the place of the contents. */
+enum {
+    RUGULOSCA_SPACING_AT = 2,
+    RUGULOSCA_HALF_BREADTHS_AT = 5,
+    RUGULOSCA_ITEMS_AT = 3000,
+    RUGULOSCA_TANKS_AT = 4000
 };
 
 /* A tally of 32 slots, as its owner keeps it: five numbers a slot in `slots`, 0 where the slot is empty and any other

@@ -1,6 +1,6 @@
 /* The smallest program around the library: the sheet of the file on standard input, on standard output. Before it, on a
- * barge of the program's own, its rows by both engines, a tally, which is what a crane panel does for a lift, and a load
- * by both readings of KM. */
+ * barge of the program's own, its rows by both engines, a tally, which is what a crane panel does for a lift, a load by
+ * both readings of KM, and what is refused, with its place. */
 #include <assert.h>
 #include <stdio.h>
 #include <string.h>
@@ -77,6 +77,36 @@ static int64_t gm_by(uint64_t (*condition)(const int64_t *, size_t, const int64_
     return signed_numbers[0];
 }
 
+/* The place at which the condition of one item and one tank is refused with this number. */
+static size_t refused_at(uint64_t number, const int64_t item[4], const int64_t tank[8]) {
+    uint64_t wholes[8];
+    int64_t signed_numbers[2];
+    double tangent;
+    size_t place = 0;
+    uint64_t refusal = rugulosca_condition(item, 4, tank, 8, rows, 21, wholes, signed_numbers, &tangent, &place);
+    assert(refusal == number);
+    return place;
+}
+
+static void refusals(void) {
+    const int64_t item[4] = {50000, 5000, 0, 1000};
+    const int64_t item_too_high[4] = {50000, 5000, 0, 30001};
+    const int64_t tank[8] = {5000, 8000, 5000, 400, 300, 2000, 2000, 1000};
+    const int64_t tank_too_wide[8] = {5000, 8000, 5000, 400, 300, 2000, 8001, 1000};
+    const int64_t tank_too_full[8] = {8001, 8000, 5000, 400, 300, 2000, 2000, 1000};
+    /* 80 intervals of 1,251 mm are more than 100,000 mm */
+    const uint64_t too_long[5] = {80, 4, 1251, 500, 1000};
+    const uint64_t half_breadths[5] = {2000, 2000, 2000, 2000, 2000};
+    uint64_t made[RUGULOSCA_ROW_ROOM];
+    size_t count;
+    size_t place = 0;
+    uint64_t refusal = rugulosca_rows(half_breadths, 5, too_long, made, RUGULOSCA_ROW_ROOM, &count, &place);
+    assert(refusal == 4 && place == RUGULOSCA_SPACING_AT);
+    assert(refused_at(4, item_too_high, tank) == RUGULOSCA_ITEMS_AT + 3);
+    assert(refused_at(4, item, tank_too_wide) == RUGULOSCA_TANKS_AT + 6);
+    assert(refused_at(13, item, tank_too_full) == RUGULOSCA_TANKS_AT);
+}
+
 int main(void) {
     /* a byte more than a file may have, so that a longer one is refused */
     static uint8_t text[RUGULOSCA_LONGEST_FILE + 1];
@@ -89,6 +119,7 @@ int main(void) {
     lift();
     assert(gm_by(rugulosca_condition) == 638);
     assert(gm_by(rugulosca_condition_straight_line) == 735);
+    refusals();
     read = fread(text, 1, sizeof text, stdin);
     /* room for the longest sheet is never too short, so this is never refused */
     rugulosca_report(text, read, sheet, sizeof sheet, &count, &place);

@@ -32,7 +32,7 @@ const Z: Range = range(0, 30_000);
 
 /// Intervals of length and of draft, mm between stations and between waterlines, water density.
 pub const PARTICULARS: [Range; 5] = [range(2, 80), range(3, 20), range(50, 2_500), range(10, 500), range(900, 1_100)];
-/// Where those two stand among the particulars that make the hull's length, and the most mm that it may have.
+/// Where the two of them stand that make the hull's length, and the most mm that it may have.
 pub const INTERVALS: usize = 0;
 pub const STATION_SPACING: usize = 2;
 pub const LONGEST_HULL: u64 = 100_000;
