@@ -56,8 +56,8 @@ pub record LongerTables : Type 0 where
       → answer ≡ Read.Refused (record { number = 4; place = s })
   -- "after all five ranges": what refuses one of the five refuses them, however long their hull; in the reader also what is no number, and the file's end
   pub ranges-come-first : (p : Particulars) → firstOutside particulars (numbersOf p) < length particulars → badParticular p ≡ firstOutside particulars (numbersOf p)
-  pub particulars-come-first : {text h₀ h′ : List ℕ} {i₀ i′ t₀ t′ : List ℤ} {answer : Read} {count why place : ℕ} {five-on : List Token} → RoomForAnyFile h₀ i₀ t₀ → length text ≤ 32_768
-      → tokens text ≡ number count (pos 5) ∷ five-on → numbers (length text) particulars five-on ≡ refused why place → Reads text h₀ h′ i₀ i′ t₀ t′ answer
+  pub particulars-come-first : {text h₀ h′ : List ℕ} {i₀ i′ t₀ t′ : List ℤ} {answer : Read} {count why place : ℕ} {rest : List Token} → RoomForAnyFile h₀ i₀ t₀ → length text ≤ 32_768
+      → tokens text ≡ number count (pos 5) ∷ rest → numbers (length text) particulars rest ≡ refused why place → Reads text h₀ h′ i₀ i′ t₀ t′ answer
       → answer ≡ Read.Refused (record { number = why; place = place })
   -- "1 now speaks of 32,768 bytes, its place too"
   pub too-many-bytes : {text h₀ h′ : List ℕ} {i₀ i′ t₀ t′ : List ℤ} {answer : Read} → RoomForAnyFile h₀ i₀ t₀ → 32_768 < length text → Reads text h₀ h′ i₀ i′ t₀ t′ answer

@@ -119,7 +119,7 @@ module _ (text : List ℕ) (step : Step) (after : List ℤ) where
   pub hull-at : (k next : ℕ) → step ≡ S.At k next → (r : Step) → HullFrom text next after r → HullAfter text step after r
   hull-at k next e r h = from-place text step k next e (hullBy (length text) limits) ∙ h
 
-pub refused-before : (len : ℕ) {ts five-on : List Token} {count why place : ℕ} → ts ≡ number count (pos (length particulars)) ∷ five-on → numbers len particulars five-on ≡ refused why place → file len ts ≡ refused why place
+pub refused-before : (len : ℕ) {ts rest : List Token} {count why place : ℕ} → ts ≡ number count (pos (length particulars)) ∷ rest → numbers len particulars rest ≡ refused why place → file len ts ≡ refused why place
 unfolding fileBy hullBy Reading.count one andThen if_then_else_
 refused-before len e r = rw (e, whole-within (length particulars) (length particulars) (length particulars) (omega arith, omega arith), r)
 
