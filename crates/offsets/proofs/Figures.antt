@@ -10,7 +10,8 @@ use Rattle.arithmetic.specs.Choice.{if_then_else_}
 use Rattle.numerals.specs.Number.{minus, isDigit, allDigits, valueFrom, isWhole, numberOf}
 use Rattle.ranges.specs.Fields.{within}
 use Rattle.ranges.specs.Outcome.{Outcome, refused, andThen}
-use Rattle.ranges.specs.Refusals.{notANumber, countNotAllowed, endsTooEarly}
+use Rattle.ranges.specs.Outside.{tooLong}
+use Rattle.ranges.specs.Refusals.{notANumber, countNotAllowed, outOfRange, endsTooEarly}
 use Rattle.ranges.specs.Sizes.{roomForHalfBreadths, roomForItems, roomForTanks}
 use Rattle.ranges.proofs.Longer.{documentOne}
 use Rattle.offsets.specs.File.{Contents, hullBy, fileBy}
@@ -18,6 +19,10 @@ use Rattle.offsets.specs.Reader.{readerOf, readerBy}
 use Rattle.offsets.specs.Reading.{one, count, numbers}
 use Rattle.offsets.specs.Tokens.{isSeparator, said, closed, tokensBy}
 use Rattle.offsets.proofs.AsBefore.{separatedBefore, leadingZero, withoutMinus, numberBefore, tokensBefore}
+
+-- 5 80 3 1251 10, with a space after it: 80 intervals of 1,251 mm are too long, and the density is still to come
+abbrev tooLongSoFar : List ℕ
+tooLongSoFar = 53 ∷ 32 ∷ 56 ∷ 48 ∷ 32 ∷ 51 ∷ 32 ∷ 49 ∷ 50 ∷ 53 ∷ 49 ∷ 32 ∷ 49 ∷ 48 ∷ 32 ∷ []
 
 -- a text, and what the reader says of it
 abbrev pub shortestFiles : List (List ℕ × Outcome Contents)
@@ -38,13 +43,18 @@ shortestFiles =
     ∷ (53 ∷ 11 ∷ [], refused notANumber 0)
     ∷ (53 ∷ 12 ∷ [], refused notANumber 0)
     ∷ (53 ∷ 14 ∷ [], refused notANumber 0)
+    -- a hull too long: with 900 after it at its s; with 899 or - at that, and with nothing at the end
+    ∷ (tooLongSoFar ++ 57 ∷ 48 ∷ 48 ∷ [], refused outOfRange 7)
+    ∷ (tooLongSoFar ++ 56 ∷ 57 ∷ 57 ∷ [], refused outOfRange 15)
+    ∷ (tooLongSoFar ++ minus ∷ [], refused notANumber 15)
+    ∷ (tooLongSoFar, refused endsTooEarly 15)
     ∷ []
 
 abbrev readWhole : List ℕ → Outcome Contents
 readWhole text = readerOf text roomForHalfBreadths roomForItems roomForTanks
 
 pub shortest-files : map (λ f. readWhole (f .0)) shortestFiles ≡ map (λ f. f .1) shortestFiles
-unfolding readerBy fileBy hullBy count one numbers tokensBy closed said numberOf isWhole allDigits isDigit valueFrom isSeparator within andThen if_then_else_
+unfolding readerBy fileBy hullBy tooLong count one numbers tokensBy closed said numberOf isWhole allDigits isDigit valueFrom isSeparator within andThen if_then_else_
 shortest-files = refl
 
 abbrev shortestFilesBefore : List (List ℕ × Outcome Contents)
