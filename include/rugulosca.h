@@ -21,11 +21,14 @@
 extern "C" {
 #endif
 
-/* Room that is never too short: for a file's text, read or written, for a sheet, for the numbers of a file, and for the
- * rows of a hull. */
+/* The most bytes of a file that is read. */
+enum { RUGULOSCA_LONGEST_FILE = 32768 };
+
+/* Room that is never too short: for a sheet, for the text of a file that is written, for the numbers of a file, and for
+ * the rows of a hull. */
 enum {
-    RUGULOSCA_LONGEST_FILE = 32768,
     RUGULOSCA_LONGEST_SHEET = 3173,
+    RUGULOSCA_LONGEST_TEXT = 10202,
     RUGULOSCA_HALF_BREADTH_ROOM = 1701,
     RUGULOSCA_ITEM_ROOM = 128,
     RUGULOSCA_TANK_ROOM = 128,

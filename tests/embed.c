@@ -1,6 +1,6 @@
 /* The smallest program around the library: the sheet of the file on standard input, on standard output. Before it, on a
  * barge of the program's own, its rows by both engines, a tally, which is what a crane panel does for a lift, a load by
- * both readings of KM, and what is refused, with its place. */
+ * both readings of KM, what is refused, with its place, and the longest text that the writer writes. */
 #include <assert.h>
 #include <stdio.h>
 #include <string.h>
@@ -107,6 +107,34 @@ static void refusals(void) {
     assert(refused_at(13, item, tank_too_full) == RUGULOSCA_TANKS_AT);
 }
 
+/* The bytes of the longest file that can be written: 80 and 20 intervals, 32 items and 16 tanks, every number at its
+ * longest. */
+static size_t longest_text(void) {
+    const uint64_t particulars[5] = {80, 20, 1250, 500, 1100};
+    const int64_t item[4] = {300000, 100000, -10000, 30000};
+    const int64_t tank[8] = {400000, 400000, 100000, -10000, 30000, 10000, 8000, 1500};
+    static uint64_t half_breadths[RUGULOSCA_HALF_BREADTH_ROOM];
+    int64_t items[RUGULOSCA_ITEM_ROOM];
+    int64_t tanks[RUGULOSCA_TANK_ROOM];
+    static uint8_t room[RUGULOSCA_LONGEST_TEXT];
+    size_t count = 0;
+    size_t place = 0;
+    for (size_t i = 0; i < RUGULOSCA_HALF_BREADTH_ROOM; i++) {
+        half_breadths[i] = 8000;
+    }
+    for (size_t i = 0; i < RUGULOSCA_ITEM_ROOM; i++) {
+        items[i] = item[i % 4];
+    }
+    for (size_t i = 0; i < RUGULOSCA_TANK_ROOM; i++) {
+        tanks[i] = tank[i % 8];
+    }
+    uint64_t refusal = rugulosca_write(particulars, half_breadths, RUGULOSCA_HALF_BREADTH_ROOM, items,
+                                       RUGULOSCA_ITEM_ROOM, tanks, RUGULOSCA_TANK_ROOM, room, sizeof room, &count,
+                                       &place);
+    assert(refusal == 0);
+    return count;
+}
+
 int main(void) {
     /* a byte more than a file may have, so that a longer one is refused */
     static uint8_t text[RUGULOSCA_LONGEST_FILE + 1];
@@ -120,6 +148,7 @@ int main(void) {
     assert(gm_by(rugulosca_condition) == 638);
     assert(gm_by(rugulosca_condition_straight_line) == 735);
     refusals();
+    assert(longest_text() == RUGULOSCA_LONGEST_TEXT);
     read = fread(text, 1, sizeof text, stdin);
     /* room for the longest sheet is never too short, so this is never refused */
     rugulosca_report(text, read, sheet, sizeof sheet, &count, &place);

@@ -13,7 +13,7 @@
 enum { PAINTED_BYTES = 256 * 1024, LAST_SLOT = RUGULOSCA_SLOTS - 1, ITEM_WIDTH = 4 };
 
 /* What is lent. The reader fills the tables that are lent to the calls after it, and the rows' calls the rows. */
-static uint8_t text[RUGULOSCA_LONGEST_FILE + 1], room[RUGULOSCA_LONGEST_FILE];
+static uint8_t text[RUGULOSCA_LONGEST_FILE + 1], room[RUGULOSCA_LONGEST_TEXT];
 static size_t text_length, room_length, count, place;
 static uint64_t summary[7], half_breadths[RUGULOSCA_HALF_BREADTH_ROOM], rows[RUGULOSCA_ROW_ROOM], wholes[8];
 static int64_t items[RUGULOSCA_ITEM_ROOM], tanks[RUGULOSCA_TANK_ROOM], signed_numbers[2];
@@ -105,8 +105,8 @@ int main(void) {
     size_t largest = fread(text, 1, sizeof text, stdin);
     /* the file; with blank space after it, as long as a file may be and a byte longer; cut in the middle; nothing */
     const size_t texts[] = {largest, RUGULOSCA_LONGEST_FILE, RUGULOSCA_LONGEST_FILE + 1, largest / 2, 0};
-    /* for any file; a byte less, and less than for any sheet, where a text is made apart and copied if it fits; none */
-    const size_t rooms[] = {RUGULOSCA_LONGEST_FILE, RUGULOSCA_LONGEST_FILE - 1, RUGULOSCA_LONGEST_SHEET - 1, 0};
+    /* for any text; a byte less, and less than for any sheet, where a text is made apart and copied if it fits; none */
+    const size_t rooms[] = {RUGULOSCA_LONGEST_TEXT, RUGULOSCA_LONGEST_TEXT - 1, RUGULOSCA_LONGEST_SHEET - 1, 0};
     text_length = largest;
     call_read(1);
     for (size_t slot = 0; slot < RUGULOSCA_SLOTS; slot++) {

@@ -15,7 +15,7 @@ mod trial_texts;
 use crate::calls::{Engine, Reading, Summary, Tally};
 use crate::peer;
 use crate::peer::ranges::{half_breadth_count, HALF_BREADTH, ITEM, PARTICULARS, ROW, TANK};
-use crate::peer::ranges::{HALF_BREADTH_ROOM, ITEM_ROOM, LONGEST_FILE, ROW_ROOM, SHEET_ROOM, TANK_ROOM};
+use crate::peer::ranges::{HALF_BREADTH_ROOM, ITEM_ROOM, ROW_ROOM, SHEET_ROOM, TANK_ROOM};
 use crate::peer::ranges::{MOST_INTERVALS, MOST_WATERLINES};
 use crate::peer::tally::SLOTS;
 use crate::step::Step;
@@ -201,7 +201,8 @@ fn write(random: &mut Random) -> Call {
             near(random, needed(peer::write(particulars, half_breadths, items, tanks, &mut [])))
         }
         4 => 0,
-        _ => LONGEST_FILE,
+        5 => peer::LONGEST_TEXT - 1,
+        _ => peer::LONGEST_TEXT,
     };
     Call::Write { numbers, room }
 }

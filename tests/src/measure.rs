@@ -3,8 +3,9 @@
 use crate::calculation::{Calculation, LIBRARY, PEER};
 use crate::calls::{Engine, Reading, Tally};
 use crate::generate::FileNumbers;
-use crate::peer::ranges::{HALF_BREADTH_ROOM, ITEM_ROOM, LONGEST_FILE, ROW, ROW_ROOM, TANK_ROOM};
+use crate::peer::ranges::{HALF_BREADTH_ROOM, ITEM_ROOM, ROW, ROW_ROOM, TANK_ROOM};
 use crate::peer::tally::SLOT_NUMBERS;
+use crate::peer::LONGEST_TEXT;
 use crate::samples;
 use std::hint::black_box;
 use std::time::{Duration, Instant};
@@ -114,7 +115,7 @@ impl Lent {
         let rows = tables.3[..ROW.len() * count].to_vec();
         (PEER.condition)(Reading::default(), &items, &tanks, &rows).ok()?;
         let lift = Lift::of(&items)?;
-        let (text, room) = (text.into_bytes(), vec![0; LONGEST_FILE]);
+        let (text, room) = (text.into_bytes(), vec![0; LONGEST_TEXT]);
         Some(Lent { text, particulars, half_breadths, items, tanks, rows, lift, room, tables })
     }
 

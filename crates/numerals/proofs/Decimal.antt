@@ -3,6 +3,7 @@
 --     decimal-induction                           what holds of one digit, and still with one digit more, holds of every number and its digits
 --     all-of-decimal, value-of-decimal            they are digits, and their value is the number
 --     some-of-decimal, length-of-decimal          at least one, and at most k where the number is below 10 ^ k
+--     below-of-decimal, length-of-decimal-mono    a number of k digits is below 10 ^ k; a smaller number has no more digits
 --     first-of-decimal                            a number above 0 does not begin with the digit 0
 --     decimal-is-digits                           they are the digits that `io::decimal` writes
 -- Assumes nothing.
@@ -101,6 +102,16 @@ length-of-decimal =
     one-more n d l some short (suc zero) h fits = absurd (omega arith)
     one-more n d l some short (suc (suc k)) h fits =
         omega (arith, length-append l ((zeroDigit + d) ∷ []), short (suc k) (omega arith) (omega (arith, pow-suc 10 (suc k))))
+
+pub below-of-decimal : (n : ℕ) → n < 10 ^ length (decimal n)
+below-of-decimal =
+    decimal-induction (λ n l. n < 10 ^ length l) (λ d small. omega (arith, pow-suc 10 0))
+    (λ n d l some small e.
+    let more : length (l ++ (zeroDigit + d) ∷ []) ≡ suc (length l) = length-append l ((zeroDigit + d) ∷ []) ∙ omega arith in
+    rw more (omega (arith, pow-suc 10 (length l))))
+
+pub length-of-decimal-mono : {m n : ℕ} → m ≤ n → length (decimal m) ≤ length (decimal n)
+length-of-decimal-mono {m} {n} h = length-of-decimal m (length (decimal n)) (some-of-decimal n) (omega (arith, below-of-decimal n))
 
 -- a number above 0 begins with another digit, and so does that number with more digits after it
 pub first-of-decimal : (n : ℕ) → 0 < n → getD (decimal n) 0 0 ≡ zeroDigit → ⊥

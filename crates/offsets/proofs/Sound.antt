@@ -1,7 +1,7 @@
 -- Contents that a file can say: those of every file that is read, and of every file that is written.
 --     Sound                     each number in its range, no hull too long, and no more items and tanks than allowed
 --     hull-most, points-most, points-le      no hull has more stations, waterlines or points than there is room for
---     numbersIn, mostNumbers    the numbers of a file of these contents, in their order, and how many there can be
+--     numbersIn                 the numbers of a file of these contents, in their order
 --     file-of-said              tokens that say them are read as these contents
 -- Assumes nothing.
 use mathlib.Core.Path.{_≡_, refl, _∙_}
@@ -12,14 +12,14 @@ use native.Mathlib.Nat.{mul-one, mul-le-mul}
 use native.Mathlib.Omega.{arith}
 use lib.Dec.{lit≤}
 use lib.IntN.{ℤ, pos, natAbs}
-use lib.ListN.{length, getD, length-append}
+use lib.ListN.{length, getD}
 use Rattle.arithmetic.proofs.Choice.{chosen}
 use Rattle.ranges.specs.Fields.{Range, _to_, most, rangeOf, within, particulars, halfBreadth, item, tank}
 use Rattle.ranges.specs.Limits.{limits}
 use Rattle.ranges.specs.Outcome.{Outcome, answered, andThen}
 use Rattle.ranges.specs.Outside.{particularsOf, tooLong}
 use Rattle.ranges.specs.Refusals.{countNotAllowed, outOfRange}
-use Rattle.ranges.specs.Sizes.{pointsOf, itemWidth, tankWidth, roomForHalfBreadths, roomForItems, roomForTanks, mostItems, mostTanks}
+use Rattle.ranges.specs.Sizes.{pointsOf, itemWidth, tankWidth, roomForHalfBreadths, mostItems, mostTanks}
 use Rattle.ranges.proofs.Facts.{whole-within, within-size}
 use Rattle.offsets.specs.File.{Contents, records, points, hullBy, section, complete, fileBy, file}
 use Rattle.offsets.specs.Reading.{one, count, numbers}
@@ -75,15 +75,6 @@ halfBreadthsOn c = pos (points (c .hull)) ∷ c .halfBreadths ++ itemsOn c
 
 abbrev pub numbersIn : Contents → List ℤ
 numbersIn c = pos (length particulars) ∷ c .hull ++ halfBreadthsOn c
-
--- four counts, the particulars, and the numbers of the largest tables
-abbrev pub mostNumbers : ℕ
-mostNumbers = 4 + length particulars + roomForHalfBreadths + roomForItems + roomForTanks
-
-pub length-of-numbers : (c : Contents) → Sound c → length (numbersIn c) ≤ mostNumbers
-length-of-numbers c s =
-    simp length-append
-    (omega (arith, in-ranges-length (s .hull), length-of-half-breadths c s, points-le (s .hull), length-of-items c s, s .few-items, length-of-tanks c s, s .few-tanks))
 
 -- a reading that takes its values from the front of what tokens say, and leaves tokens that say more
 pub record Takes {A : Type 0} (reading : Outcome (A × List Token)) (values : A) (more : List ℤ) : Type 0 where

@@ -11,7 +11,6 @@ use lib.ListN.{length, take, drop}
 use lib.Seq.{take-at}
 use Rattle.ranges.specs.Outcome.{Outcome, answered, refused, answerWith, leftWith}
 use Rattle.ranges.specs.Outside.{particularsOf}
-use Rattle.ranges.specs.Sizes.{longestFile}
 use Rattle.ranges.specs.declared.Particulars.{Particulars}
 use Rattle.ranges.proofs.Outcomes.{refused-not}
 use Rattle.offsets.specs.Back.{RoomForAnyFile, ReadBack, summaryWith}
@@ -23,6 +22,7 @@ use Rattle.offsets.specs.declared.Summary.{Summary}
 use Rattle.offsets.proofs.Answers.{on-file}
 use Rattle.offsets.proofs.Sound.{Sound}
 use Rattle.offsets.proofs.WasRead.{reads-contents, halfBreadthsRead, itemsRead, tanksRead, contents-read}
+use Rattle.writer.specs.Longest.{longestText}
 use Rattle.writer.specs.Written.{textOf}
 use Rattle.writer.specs.Writer.{Writes, writerOf, lengthOf, roomAfter}
 use Rattle.writer.specs.declared.Written.{Written}
@@ -69,7 +69,7 @@ pub record WrittenAgain (summary : Summary) (h : List ℕ) (i t : List ℤ) (roo
 
 -- what was read, written from tables that hold just that
 rewritten : (c : Contents) → Sound c → {room roomLeft : List ℕ} {answer : Written}
-    → Writes (particularsOf (c .hull)) (map natAbs (c .halfBreadths)) (c .items) (c .tanks) room roomLeft answer → longestFile ≤ length room
+    → Writes (particularsOf (c .hull)) (map natAbs (c .halfBreadths)) (c .items) (c .tanks) room roomLeft answer → longestText ≤ length room
     → WrittenAgain (summaryOf c) (map natAbs (c .halfBreadths)) (c .items) (c .tanks) roomLeft answer
 unfolding answerWith
 rewritten c s {room} {answer = answer} w l =
@@ -78,7 +78,7 @@ rewritten c s {room} {answer = answer} w l =
     record { count = length text; answer-is = e; read-back = λ rooms r. write-then-read (rw e at w) rooms r }
 
 pub read-then-write : {text h₀ h' : List ℕ} {i₀ i' t₀ t' : List ℤ} {summary : Summary} {room roomLeft : List ℕ} {answer : Written}
-    → Reads text h₀ h' i₀ i' t₀ t' (Sheet summary) → longestFile ≤ length room
+    → Reads text h₀ h' i₀ i' t₀ t' (Sheet summary) → longestText ≤ length room
     → Writes (summary .particulars) (halfBreadthsRead summary h') (itemsRead summary i') (tanksRead summary t') room roomLeft answer
     → WrittenAgain summary (halfBreadthsRead summary h') (itemsRead summary i') (tanksRead summary t') roomLeft answer
 read-then-write r l w =

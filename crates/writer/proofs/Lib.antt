@@ -1,5 +1,6 @@
 -- The laws of this crate, for every crate above it: writing, and that what is written is read back.
 pub mod Spelled
+pub mod Longest
 pub mod Tried
 pub mod RoundTrip
 pub mod Unique

@@ -2,7 +2,8 @@
 --     contentsOf                the contents of a file of these particulars and tables
 --     passes-sound, sound-passes     tables that pass the writer's tests are sound contents, and the other way
 --     text-spells               the text of a file spells its numbers
---     length-of-text            it is never longer than a file may be
+--     length-of-text            it is never longer than its numbers at their longest
+--     passes-answered           room for that is never too short
 --     written-is-read           what the writer answers is read as what was written
 -- Assumes nothing.
 use mathlib.Core.Path.{_≡_, refl, sym, ap₂, _∙_}
@@ -27,11 +28,13 @@ use Rattle.offsets.specs.File.{Contents, records, points, file}
 use Rattle.offsets.specs.Tokens.{tokens}
 use Rattle.offsets.proofs.InRanges.{InRanges, in-ranges-length, length-of-records, in-ranges-of-table, no-number-outside, Every, every-records, Whole, whole-in-ranges, hull-again}
 use Rattle.offsets.proofs.Editors.{held-is-read}
-use Rattle.offsets.proofs.Sound.{Sound, recordsIn, points-le, length-of-half-breadths, length-of-items, length-of-tanks, numbersIn, length-of-numbers}
+use Rattle.offsets.proofs.Sound.{Sound, recordsIn, points-le, length-of-half-breadths, length-of-items, length-of-tanks, numbersIn}
+use Rattle.writer.specs.Longest.{longestText}
 use Rattle.writer.specs.Private.Putting.{Passes}
 use Rattle.writer.specs.Written.{lines, counted, sectionText, textOf}
 use Rattle.writer.specs.Writer.{writerOf}
-use Rattle.writer.proofs.Spelled.{Spells, spells-holds, spells-append, length-of-spelled, line-spells, lines-spell, Few, short-in-ranges}
+use Rattle.writer.proofs.Spelled.{Spells, spells-holds, spells-append, line-spells, lines-spell, Few, short-in-ranges}
+use Rattle.writer.proofs.Longest.{length-of-spelled, in-all-ranges, all-ranges-le, longest-is}
 use Rattle.writer.proofs.Tried.{answered-passes, answers}
 
 abbrev pub contentsOf : Particulars → List ℕ → List ℤ → List ℤ → Contents
@@ -114,11 +117,17 @@ module _ (p : Particulars) (h : List ℕ) (i t : List ℤ) (s : Sound (contentsO
       let tanks = section-spells tank (omega arith) t (omega arith) (omega (arith, s .few-tanks)) (s .tanks) in
       spells-append (counted-spells (length particulars) (omega arith)) (spells-append hull (spells-append (counted-spells n (omega (arith, points-le (s .hull)))) (spells-append half (spells-append items tanks)))))
 
-  pub length-of-text : length (textOf p h i t) ≤ longestFile
-  length-of-text = omega (arith, length-of-spelled text-spells, length-of-numbers (contentsOf p h i t) s)
+  pub length-of-text : length (textOf p h i t) ≤ longestText
+  length-of-text =
+      let c = contentsOf p h i t in
+      omega (arith, length-of-spelled text-spells (in-all-ranges c s), all-ranges-le _ _ _ (points-le (s .hull)) (s .few-items) (s .few-tanks))
 
   pub text-is-read : file (length (textOf p h i t)) (tokens (textOf p h i t)) ≡ answered (contentsOf p h i t)
   text-is-read = held-is-read (textOf p h i t) (contentsOf p h i t) s (spells-holds text-spells)
+
+-- room for the longest text is never too short
+pub passes-answered : (p : Particulars) (h : List ℕ) (i t : List ℤ) → Passes p h i t → (room : ℕ) → longestText ≤ room → writerOf p h i t room ≡ answered (textOf p h i t)
+passes-answered p h i t o room l = answers p h i t room o (omega (arith, length-of-text p h i t (passes-sound p h i t o)))
 
 -- what the writer answers is read as what was written
 pub written-is-read : (p : Particulars) (h : List ℕ) (i t : List ℤ) (room : ℕ) {text : List ℕ} → writerOf p h i t room ≡ answered text
@@ -126,7 +135,7 @@ pub written-is-read : (p : Particulars) (h : List ℕ) (i t : List ℤ) (room : 
 written-is-read p h i t room e =
     let a = answered-passes p h i t room e in
     let s = passes-sound p h i t (a .passes) in
-    rw (a .text-is) (length-of-text p h i t s, text-is-read p h i t s)
+    rw (a .text-is) (omega (arith, length-of-text p h i t s, longest-is), text-is-read p h i t s)
 
 -- ---- what was read can be written
 half-breadths-again : (k : ℕ) {vs : List ℤ} → InRanges (records k halfBreadth) vs → map pos (map natAbs vs) ≡ vs
@@ -136,14 +145,13 @@ pub contents-again : (c : Contents) → Sound c → contentsOf (particularsOf (c
 contents-again c s =
     ap₂ {C = Contents} (λ hull half. record { hull = hull; halfBreadths = half; items = c .items; tanks = c .tanks }) (hull-again limits (s .hull)) (half-breadths-again (points (c .hull)) (s .half-breadths))
 
--- the particulars and tables that were read, written into room for the longest file, are read as the same contents
+-- the particulars and tables that were read, written into room for the longest text, are read as the same contents
 pub sound-again : (c : Contents) → Sound c → Sound (contentsOf (particularsOf (c .hull)) (map natAbs (c .halfBreadths)) (c .items) (c .tanks))
 sound-again c s = rw (contents-again c s) s
 
-pub read-is-written : (c : Contents) → Sound c → (room : ℕ) → longestFile ≤ room
+pub read-is-written : (c : Contents) → Sound c → (room : ℕ) → longestText ≤ room
     → writerOf (particularsOf (c .hull)) (map natAbs (c .halfBreadths)) (c .items) (c .tanks) room ≡ answered (textOf (particularsOf (c .hull)) (map natAbs (c .halfBreadths)) (c .items) (c .tanks))
 read-is-written c s room l =
     let p = particularsOf (c .hull) in
     let h = map natAbs (c .halfBreadths) in
-    let again = sound-again c s in
-    answers p h (c .items) (c .tanks) room (sound-passes p h (c .items) (c .tanks) again) (omega (arith, length-of-text p h (c .items) (c .tanks) again))
+    passes-answered p h (c .items) (c .tanks) (sound-passes p h (c .items) (c .tanks) (sound-again c s)) room l

@@ -2,7 +2,6 @@
 --     Spells                               a text of numbers, none of more than nine digits, each with a separator after it
 --     spells-holds                         it holds the numbers that it spells
 --     spells-append                        two such texts, one after the other
---     mostSpelled, length-of-spelled       eleven bytes a number at the most
 --     Short, short-take, short-drop        numbers of nine digits at the most, and parts of them
 --     line-spells, lines-spell             a line and the lines of a table spell their numbers
 --     Few, short-in-ranges                 ranges whose numbers have nine digits at the most
@@ -10,14 +9,14 @@
 use mathlib.Core.Path.{_≡_, refl}
 use mathlib.Core.Bool.{true}
 use mathlib.Core.List.{List, [], _∷_, _++_, append-assoc}
-use Prim.Native.Nat.{ℕ, zero, suc, _+_, _*_, _^_, _≤_, _<_}
+use Prim.Native.Nat.{ℕ, zero, suc, _+_, _*_, _^_, _<_}
 use native.Mathlib.Nat.{suc-mul, zero-mul}
 use native.Mathlib.Omega.{arith}
 use lib.IntN.{ℤ, natAbs}
-use lib.ListN.{length, take, drop, length-append, length-take, length-drop, take-append-drop}
+use lib.ListN.{length, take, drop, length-take, length-drop, take-append-drop}
 use Rattle.numerals.specs.Number.{mostDigits, numberOf}
 use Rattle.numerals.specs.Printed.{printed}
-use Rattle.numerals.proofs.Printed.{number-of-printed, length-of-printed}
+use Rattle.numerals.proofs.Printed.{number-of-printed}
 use Rattle.ranges.specs.Fields.{Range, most}
 use Rattle.ranges.proofs.Facts.{within-size}
 use Rattle.offsets.specs.Tokens.{isSeparator, space, lineFeed}
@@ -36,15 +35,6 @@ spells-holds (next v b h e s) = before (number-of-printed v h) e (spells-holds s
 pub spells-append : {vs ws : List ℤ} {a b : List ℕ} → Spells vs a → Spells ws b → Spells (vs ++ ws) (a ++ b)
 spells-append empty t = t
 spells-append (next v b h e s) t = rw append-assoc (next v b h e (spells-append s t))
-
--- the digits, a minus and a separator
-abbrev pub mostSpelled : ℕ
-mostSpelled = mostDigits + 2
-
-pub length-of-spelled : {vs : List ℤ} {text : List ℕ} → Spells vs text → length text ≤ mostSpelled * length vs
-length-of-spelled empty = omega arith
-length-of-spelled (next {text = text} v b h e s) =
-    omega (arith, length-append (printed v) (b ∷ text), length-of-printed v mostDigits (omega arith) h, length-of-spelled s)
 
 -- ---- lines
 abbrev pub Short : List ℤ → Type 0

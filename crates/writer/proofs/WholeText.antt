@@ -1,5 +1,5 @@
 -- The text of a file put section by section, where the writer's tests were passed.
---     room-for-text                         room for the longest file is room for the text
+--     room-for-text                         room for the longest text is room for the text
 --     hull-room, stations-room, items-room, tanks-room      what each section asks, once those before it were put
 --     all-put                               the four sections are the text
 -- Assumes nothing.
@@ -13,10 +13,11 @@ use lib.Seq.{sets-eq, take-at, take-length}
 use Rattle.ranges.specs.Private.InRange.{ParticularsInRange}
 use Rattle.ranges.specs.Outcome.{refused, answerWith, leftWith}
 use Rattle.ranges.specs.Refusals.{roomTooShort}
-use Rattle.ranges.specs.Sizes.{longestFile, itemWidth, tankWidth}
+use Rattle.ranges.specs.Sizes.{itemWidth, tankWidth}
 use Rattle.ranges.specs.declared.Particulars.{Particulars}
 use Rattle.ranges.proofs.Facts.{particulars-in-range, half-breadths-in-range}
 use Rattle.offsets.proofs.Sound.{points-le, length-of-items, length-of-tanks}
+use Rattle.writer.specs.Longest.{longestText}
 use Rattle.writer.specs.Private.Putting.{Passes, RoomFor, RoomForStations, RoomForSection, Puts, hullText, stationsText}
 use Rattle.writer.specs.Writer.{writerOf, Writes}
 use Rattle.writer.specs.Written.{sectionText, textOf}
@@ -31,7 +32,7 @@ module _ {p : Particulars} {h : List ℕ} {i t : List ℤ} (o : Passes p h i t) 
   unfolding textOf
   sections = rw (o .right-sizes .half-breadth-size) (simp append-assoc)
 
-  module _ {text : List ℕ} (big : longestFile ≤ length text) where
+  module _ {text : List ℕ} (big : longestText ≤ length text) where
     pub room-for-text : RoomFor (textOf p h i t) text 0
     room-for-text = record { enough = omega (arith, length-of-text p h i t (passes-sound p h i t o)) }
 
@@ -83,7 +84,7 @@ pub record TextStands (p : Particulars) (h : List ℕ) (i t : List ℤ) (array :
   pub stands : take count array ≡ textOf p h i t
   pub within : count ≤ length array
 
-pub text-stands : {p : Particulars} {h : List ℕ} {i t : List ℤ} {text array : List ℕ} {count : ℕ} → Passes p h i t → Puts (textOf p h i t) text 0 array count → longestFile ≤ length text → TextStands p h i t array count
+pub text-stands : {p : Particulars} {h : List ℕ} {i t : List ℤ} {text array : List ℕ} {count : ℕ} → Passes p h i t → Puts (textOf p h i t) text 0 array count → longestText ≤ length text → TextStands p h i t array count
 text-stands {p} {h} {i} {t} {text} {count = count} o put big =
     let whole = textOf p h i t in
     let room : RoomFor whole text 0 = room-for-text o big in
@@ -99,7 +100,7 @@ module _ {p : Particulars} {h : List ℕ} {i t : List ℤ} {room : List ℕ} whe
   unfolding answerWith leftWith
   writes-refused e a = record { answer-is = rw (e, a); left = rw e }
 
-  pub writes-straight : {left : List ℕ} {count : ℕ} → Passes p h i t → Puts (textOf p h i t) room 0 left count → longestFile ≤ length room → Writes p h i t room left (Wrote count)
+  pub writes-straight : {left : List ℕ} {count : ℕ} → Passes p h i t → Puts (textOf p h i t) room 0 left count → longestText ≤ length room → Writes p h i t room left (Wrote count)
   unfolding answerWith leftWith
   writes-straight {count = count} o put big =
       let whole = textOf p h i t in

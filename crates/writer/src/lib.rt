@@ -1,4 +1,4 @@
-// The writer. The text is put together in a local array that holds any file, and copied into the lent room where it fits.
+// The writer. The text is put together in a local array that holds any text, and copied into the lent room where it fits.
 ghost use mathlib.Core.Path.{_≡_};
 ghost use mathlib.Core.List.{_++_, _∷_, [], map};
 ghost use Prim.Native.Nat.{_+_, _*_, _/_, _≤_, _<_, _^_};
@@ -6,7 +6,7 @@ ghost use lib.IntN.{pos};
 ghost use lib.ListN.{length, drop};
 ghost use Rattle.numerals.specs.Printed.{printed};
 ghost use Rattle.ranges.specs.Private.InRange.{ParticularsInRange, HalfBreadthsInRange};
-ghost use Rattle.ranges.specs.Sizes.{longestFile};
+ghost use Rattle.writer.specs.Longest.{longestText};
 ghost use Rattle.writer.specs.Private.Putting.{RightSizes, Passes, RoomFor, RoomForLines, RoomForSection, RoomForStations, Puts, hullText, stationsText};
 ghost use Rattle.writer.specs.Writer.{Writes};
 ghost use Rattle.writer.specs.Written.{line, lines, counted, sectionText, textOf};
@@ -18,6 +18,24 @@ pub enum Written {
     Wrote(usize),
     Refused(Refusal),
 }
+
+// The bytes of a text at its longest, each number with what stands after it: four counts, the particulars, a half-breadth, an item, a tank.
+const COUNT_BYTES: usize = 13;
+
+const PARTICULAR_BYTES: usize = 20;
+
+const HALF_BREADTH_BYTES: usize = 5;
+
+const ITEM_BYTES: usize = 27;
+
+const TANK_BYTES: usize = 50;
+
+// Room that is never too short.
+pub const LONGEST_TEXT: usize = COUNT_BYTES
+    + PARTICULAR_BYTES
+    + HALF_BREADTH_BYTES * ranges::HALF_BREADTH_ROOM
+    + ITEM_BYTES * ranges::MOST_ITEMS
+    + TANK_BYTES * ranges::MOST_TANKS;
 
 // Writes a file's text into the lent room and answers its length, or refuses and leaves the room as it was.
 pub fn write_file(
@@ -85,8 +103,8 @@ fn write_text(
     requires { ⌜ Passes p (now «half_breadths») (now items) (now tanks) ⌝ }
     ensures { λ r. ⌜ Writes p (now («half_breadths» .entry)) (now (items .entry)) (now (tanks .entry)) (now (room .entry)) (now (room .exit)) r ⌝ }
 {
-    // Room that holds any file takes the text as it is made.
-    if ranges::LONGEST_FILE <= room.len() {
+    // Room that holds any text takes it as it is made.
+    if LONGEST_TEXT <= room.len() {
         return Written::Wrote(put_file(p, half_breadths, items, tanks, room));
     }
     write_apart(p, half_breadths, items, tanks, room)
@@ -103,7 +121,7 @@ fn write_apart(
     requires { ⌜ Passes p (now «half_breadths») (now items) (now tanks) ⌝ }
     ensures { λ r. ⌜ Writes p (now («half_breadths» .entry)) (now (items .entry)) (now (tanks .entry)) (now (room .entry)) (now (room .exit)) r ⌝ }
 {
-    let mut text = [0u8; ranges::LONGEST_FILE];
+    let mut text = [0u8; LONGEST_TEXT];
     let count = put_file(p, half_breadths, items, tanks, &mut text);
     if room.len() < count {
         return refused(Refusal::ROOM_TOO_SHORT, count);
@@ -126,7 +144,7 @@ fn put_file(
     tanks: &[i64],
     text: &mut [u8],
 ) -> usize
-    requires { ⌜ Passes p (now «half_breadths») (now items) (now tanks) × (longestFile ≤ length (now text)) ⌝ }
+    requires { ⌜ Passes p (now «half_breadths») (now items) (now tanks) × (longestText ≤ length (now text)) ⌝ }
     ensures { λ r. ⌜ Puts (textOf p (now («half_breadths» .entry)) (now (items .entry)) (now (tanks .entry))) (now (text .entry)) 0 (now (text .exit)) r ⌝ }
 {
     let hull = put_hull(p, text, 0);

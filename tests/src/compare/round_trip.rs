@@ -4,7 +4,8 @@ use super::observation::Observation;
 use crate::calculation::{Calculation, CALCULATIONS};
 use crate::calls::Summary;
 use crate::generate::{Call, FileNumbers};
-use crate::peer::ranges::{HALF_BREADTH_ROOM, ITEM, ITEM_ROOM, LONGEST_FILE, TANK, TANK_ROOM};
+use crate::peer::ranges::{HALF_BREADTH_ROOM, ITEM, ITEM_ROOM, TANK, TANK_ROOM};
+use crate::peer::LONGEST_TEXT;
 
 /// Follows an answered call of reading or writing; others have no way back.
 pub fn examine(call: &Call, answered: &Observation) -> Result<(), String> {
@@ -30,7 +31,7 @@ fn numbers_read(answered: &Observation) -> FileNumbers {
 
 fn writes_and_reads_back(writer: &Calculation, numbers: &FileNumbers) -> Result<(), String> {
     let FileNumbers { particulars, half_breadths, items, tanks } = numbers;
-    let mut room = [0; LONGEST_FILE];
+    let mut room = [0; LONGEST_TEXT];
     match (writer.write)(particulars, half_breadths, items, tanks, &mut room) {
         Ok(length) => CALCULATIONS.iter().try_for_each(|reader| reads_back(reader, &room[..length], numbers)),
         Err(refusal) => Err(format!("{} does not write what was read: {refusal:?}", writer.name)),

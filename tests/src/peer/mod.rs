@@ -27,7 +27,7 @@ pub use reader::read;
 pub use rows::rows;
 pub use sheet::report;
 pub use tally::{condition_aboard, discharge, load, shift};
-pub use writer::write;
+pub use writer::{write, LONGEST_TEXT};
 
 use crate::calls::Refusal;
 

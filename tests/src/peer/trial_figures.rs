@@ -2,9 +2,9 @@
 
 use super::condition::{free_surface, passes};
 use super::ranges::{HALF_BREADTH_ROOM, ITEM_ROOM, ROW_ROOM, SHEET_ROOM, TANK_ROOM};
-use super::ranges::{ITEM, LONGEST_FILE, MOST_INTERVALS, TANK};
+use super::ranges::{ITEM, MOST_INTERVALS, MOST_ITEMS, MOST_TANKS, TANK};
 use super::rows::multipliers;
-use super::{condition, read, report, rows, write};
+use super::{condition, read, report, rows, write, LONGEST_TEXT};
 use crate::calls::{Heel, Reading, Refusal, Summary};
 use crate::samples::{file, sample_sheet, NAMES, SAMPLE_FILE};
 
@@ -86,7 +86,7 @@ fn try_box(n: usize, s: u64) -> Result<(), Refusal> {
     let half_breadths = vec![2_000; (n + 1) * 4];
     let particulars = [n as u64, 3, s, 500, 1_000];
     let answer = rows(&half_breadths, &particulars, &mut [0; ROW_ROOM]).map(drop);
-    assert_eq!(write(&particulars, &half_breadths, &[], &[], &mut [0; LONGEST_FILE]).map(drop), answer);
+    assert_eq!(write(&particulars, &half_breadths, &[], &[], &mut [0; LONGEST_TEXT]).map(drop), answer);
     answer
 }
 
@@ -146,6 +146,16 @@ fn longest_file() {
     let sample = |length: usize| format!("{SAMPLE_FILE:length$}");
     assert_eq!(read_text(&sample(32_768)), read_text(SAMPLE_FILE));
     assert_eq!(read_text(&sample(32_769)), refused(1, 32_768));
+}
+
+#[test]
+fn longest_text() {
+    let items = [300_000, 100_000, -10_000, 30_000].repeat(MOST_ITEMS);
+    let tanks = [400_000, 400_000, 100_000, -10_000, 30_000, 10_000, 8_000, 1_500].repeat(MOST_TANKS);
+    let answer = |room| write(&[80, 20, 1_250, 500, 1_100], &[8_000; 1_701], &items, &tanks, &mut vec![0; room]);
+    assert_eq!(LONGEST_TEXT, 10_202);
+    assert_eq!(answer(10_202), Ok(10_202));
+    assert_eq!(answer(10_201), refused(14, 10_202));
 }
 
 #[test]

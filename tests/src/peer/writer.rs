@@ -7,8 +7,8 @@ use super::ranges::{HALF_BREADTH_ROOM, ITEM_PLACES, MOST_ITEMS, MOST_TANKS, TANK
 use super::{size_is_right, tables};
 use crate::calls::Refusal;
 
-/// Every number at its greatest length.
-const LONGEST_TEXT: usize = longest_section(1, &PARTICULARS)
+/// Every number at its greatest length: room that is never too short.
+pub const LONGEST_TEXT: usize = longest_section(1, &PARTICULARS)
     + longest_section(HALF_BREADTH_ROOM, &[HALF_BREADTH])
     + longest_section(MOST_ITEMS, &ITEM)
     + longest_section(MOST_TANKS, &TANK);

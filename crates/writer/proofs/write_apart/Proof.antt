@@ -5,6 +5,7 @@ use borrow.Author.Needs.{needs}
 use denote.Ref.{now}
 use lib.ListN.{length-take}
 use lib.Seq.{length-take-le}
+use Rattle.writer.proofs.Longest.{longest-is}
 use Rattle.writer.proofs.WholeText.{TextStands, text-stands, writes-short, writes-text}
 use Rattle.writer.proofs.write_apart.Statement.{statement}
 use Rattle.writer.proofs.write_apart.Tie as tie
@@ -13,13 +14,13 @@ abbrev start : tie.After-put-file → tie.Start
 start c = c .before .before .before .before
 
 text : (c : tie.After-put-file) → TextStands (start c .args .p) (now (start c .args .half-breadths)) (now (start c .args .items)) (now (start c .args .tanks)) (c .put-file .last .1 .1 .1 .1 .0) (c .put-file .result)
-text c = text-stands (start c .pre) (c .put-file .ensures) (omega arith)
+text c = text-stands (start c .pre) (c .put-file .ensures) (omega (arith, longest-is))
 
 slice-aggregate-put-file : tie.Need-slice-aggregate-put-file
 slice-aggregate-put-file c = search needs
 
 put-file-requires : tie.Need-put-file-requires
-put-file-requires c κs = search needs
+put-file-requires c κs = (c .before .before .before .pre, omega (arith, longest-is))
 
 refused-requires : tie.Need-refused-requires
 refused-requires c κs = search needs

@@ -1,11 +1,13 @@
 -- Room for any file is never too short, so that the text can be put straight into it. Assumes nothing.
+use native.Mathlib.Omega.{arith}
 use borrow.Author.Needs.{needs}
+use Rattle.writer.proofs.Longest.{longest-is}
 use Rattle.writer.proofs.WholeText.{writes-straight}
 use Rattle.writer.proofs.write_text.Statement.{statement}
 use Rattle.writer.proofs.write_text.Tie as tie
 
 put-file-requires : tie.Need-put-file-requires
-put-file-requires c κs = search needs
+put-file-requires c κs = search (longest-is, needs)
 
 same-length : tie.Need-same-length
 same-length c = search needs
@@ -13,7 +15,7 @@ same-length c = search needs
 returns : tie.Need-returns
 returns c =
     let put = c .before .before in
-    writes-straight (put .before .before .before .before .before .pre) (put .put-file .ensures) (put .before .before .if1 .taken)
+    writes-straight (put .before .before .before .before .before .pre) (put .put-file .ensures) (omega (arith, longest-is, put .before .before .if1 .taken))
 
 write-apart-requires : tie.Need-write-apart-requires
 write-apart-requires c κs = search needs
