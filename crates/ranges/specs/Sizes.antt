@@ -6,7 +6,7 @@ use lib.ListN.{length}
 use Rattle.ranges.specs.Fields.{rangeOf, least, most, item, tank, rowRanges}
 use Rattle.ranges.specs.Limits.{Limits, limits}
 
--- "Text of at most 32,768 bytes."
+-- "Text of at most" 32,768 "bytes."
 abbrev pub longestFile : ℕ
 longestFile = limits .longestFile
 

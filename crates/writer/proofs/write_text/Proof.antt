@@ -7,7 +7,7 @@ use Rattle.writer.proofs.write_text.Statement.{statement}
 use Rattle.writer.proofs.write_text.Tie as tie
 
 put-file-requires : tie.Need-put-file-requires
-put-file-requires c κs = search (longest-is, needs)
+put-file-requires c κs = (c .before .before .before .before .pre, omega (arith, longest-is, c .before .if1 .taken))
 
 same-length : tie.Need-same-length
 same-length c = search needs
