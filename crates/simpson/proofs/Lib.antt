@@ -4,4 +4,5 @@ pub mod Curves
 pub mod Front
 pub mod Exact
 pub mod Moments
+pub mod Sweep
 pub mod Running

@@ -4,7 +4,8 @@ use mathlib.Core.Path.{refl}
 use native.Mathlib.Omega.{arith}
 use borrow.Author.Needs.{needs}
 use lib.ListN.{getD}
-use Rattle.hydrostatics.proofs.Sweep.{Swept, swept-none, swept-more, swept-moment, swept-all, sum-most, sz-most, sx-most}
+use Rattle.simpson.proofs.Sweep.{Swept, swept-none, swept-more, swept-moment, swept-all}
+use Rattle.hydrostatics.proofs.Sweep.{sum-most, sz-most, sx-most}
 use Rattle.hydrostatics.proofs.waterplanes.row_sums.Statement.{statement}
 use Rattle.hydrostatics.proofs.waterplanes.row_sums.Tie as tie
 

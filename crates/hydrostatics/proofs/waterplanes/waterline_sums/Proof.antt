@@ -2,9 +2,10 @@
 use Prim.Native.Nat.{_+_, _-_, _*_}
 use mathlib.Core.Path.{sym, _∙_}
 use native.Mathlib.Omega.{arith}
+use Rattle.simpson.proofs.Sweep.{Swept, swept-none, swept-more, swept-moment, swept-all}
 use Rattle.hydrostatics.specs.Hull.{halfBreadth}
 use Rattle.hydrostatics.proofs.Exchange.{Q-is, X-is}
-use Rattle.hydrostatics.proofs.Sweep.{Swept, swept-none, swept-more, swept-moment, swept-all, q-most, x-most}
+use Rattle.hydrostatics.proofs.Sweep.{q-most, x-most}
 use Rattle.hydrostatics.proofs.waterplanes.waterline_sums.Statement.{statement}
 use Rattle.hydrostatics.proofs.waterplanes.waterline_sums.Tie as tie
 
