@@ -11,20 +11,21 @@
 --     nearest-back                       a callee's nearest number, read back
 --     Lowered, lower                     the steps from a whole number to its negation
 --     less-under, less-over              a less b, by which of the two is smaller
+--     less-whole                         where that is not negative, b is not above a
 -- Assumes nothing.
 use Prim.Native.Nat.{ℕ, zero, suc, _+_, _-_, _^_, _<_, _≤_, min}
 use mathlib.Core.Bool.{Bool, true, false}
 use mathlib.Core.Path.{_≡_, refl, sym, ap, subst, _∙_}
 use native.Mathlib.Nat.{min-eq-left, min-le-right}
 use native.Mathlib.Omega.{arith}
-use borrow.Author.Tests.{eqb-true, eqb-false, eq-eqb, lt-ltb, le-ltb}
-use lib.Dec.{T, eqb}
+use borrow.Author.Tests.{eqb-true, eqb-false, eq-eqb, lt-ltb, le-ltb, ltb-true, ltb-false}
+use lib.Dec.{T, eqb, ltb}
 use lib.IntN.{ℤ, pos, negsuc, natAbs, negℤ, sucℤ, predℤ, _+ℤ_, _-ℤ_, +ℤ-idl, +ℤ-one, -ℤ-one}
 use lib.Signed.{ltZ, nonNeg, mag}
 use mir.Facts.{toZ-ofZ, fits-natAbs}
 use mir.Syntax.{w64}
 use mir.Val.{Fits, SFits, toZ, ofZ}
-use Rattle.arithmetic.proofs.Tests.{never}
+use Rattle.arithmetic.proofs.Tests.{never, by-test}
 use Rattle.arithmetic.specs.Signed.{isNegative, eqℤ, nearest}
 
 abbrev pub back : ℤ → ℤ
@@ -58,15 +59,15 @@ same-eqℤ (pos n) = eq-eqb n n refl
 same-eqℤ (negsuc n) = eq-eqb n n refl
 
 pub same-bits : (a b : ℤ) → SFits w64 a → SFits w64 b → eqb (ofZ w64 a) (ofZ w64 b) ≡ eqℤ a b
-same-bits a b h k = by-test (eqb (ofZ w64 a) (ofZ w64 b)) (eqℤ a b) refl refl
+same-bits a b h k = by-both (eqb (ofZ w64 a) (ofZ w64 b)) (eqℤ a b) refl refl
   where
-    by-test : (s t : Bool) → eqb (ofZ w64 a) (ofZ w64 b) ≡ s → eqℤ a b ≡ t → eqb (ofZ w64 a) (ofZ w64 b) ≡ eqℤ a b
-    by-test true true e f = e ∙ sym f
-    by-test false false e f = e ∙ sym f
-    by-test true false e f =
+    by-both : (s t : Bool) → eqb (ofZ w64 a) (ofZ w64 b) ≡ s → eqℤ a b ≡ t → eqb (ofZ w64 a) (ofZ w64 b) ≡ eqℤ a b
+    by-both true true e f = e ∙ sym f
+    by-both false false e f = e ∙ sym f
+    by-both true false e f =
         let same : a ≡ b = sym (back-is h) ∙ ap (λ n. toZ w64 n) (eqb-true (ofZ w64 a) (ofZ w64 b) e) ∙ back-is k in
         never (sym f ∙ ap (λ z. eqℤ a z) (sym same) ∙ same-eqℤ a)
-    by-test false true e f = absurd (eqb-false (ofZ w64 a) (ofZ w64 b) e (ap (λ z. ofZ w64 z) (eqℤ-same a b f)))
+    by-both false true e f = absurd (eqb-false (ofZ w64 a) (ofZ w64 b) e (ap (λ z. ofZ w64 z) (eqℤ-same a b f)))
 
 -- a number that is not below 0 is whole, and its cast is defined
 whole : (v : ℤ) → isNegative v ≡ false → T (nonNeg v)
@@ -171,3 +172,13 @@ less-under a (suc b) h =
 pub less-over : (a b : ℕ) → b ≤ a → pos a -ℤ pos b ≡ pos (a - b)
 less-over a zero h = ap pos (omega arith)
 less-over a (suc b) h = rw (le-ltb a (suc b) h)
+
+below-zero-is : (k : ℕ) → 0 < k → isNegative (negℤ (pos k)) ≡ true
+below-zero-is zero h = absurd (omega arith)
+below-zero-is (suc k) h = refl
+
+pub less-whole : (a b : ℕ) → isNegative (pos a -ℤ pos b) ≡ false → b ≤ a
+less-whole a b h =
+    by-test (ltb a b)
+    (λ t. let under = ltb-true a b t in never (sym h ∙ ap isNegative (less-under a b under) ∙ below-zero-is (b - a) (omega arith)))
+    (λ t. ltb-false a b t)

@@ -4,6 +4,7 @@ pub mod Choice
 pub mod Tests
 pub mod Algebra
 pub mod Sums
+pub mod Variance
 pub mod Rounding
 pub mod Products
 pub mod Ring

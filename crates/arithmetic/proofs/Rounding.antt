@@ -7,14 +7,16 @@
 --     down-mono, up-mono      a larger numerator, never a smaller answer
 --     down-anti, up-anti      a larger divisor, never a larger answer
 --     down-whole, up-whole    a whole number needs no rounding
+--     up-scaled               a fraction's numerator and divisor times one number, rounded up, is the fraction rounded up
+--     up-by-none              by a divisor of 0, nothing
 --     up-zero, up-le          nothing, rounded up, is nothing; rounded up is no more than the numerator
 --     down-le-up              rounded down is at most rounded up, and the two are at most one apart
 -- How far each is from the fraction stands in the records themselves: less than the divisor, over the divisor.
 -- Assumes nothing.
-use mathlib.Core.Path.{_≡_, subst}
+use mathlib.Core.Path.{_≡_, subst, subst₂}
 use mathlib.Core.Logic.{_↔_}
 use Prim.Native.Nat.{ℕ, _+_, _-_, _*_, _/_, _≤_, _<_}
-use native.Mathlib.Nat.{mul-le-mul-left, mul-le-mul-right, add-mul, mul-one, one-mul, div-mul-le-self, lt-div-mul-add, lt-of-mul-lt-mul-right, le-antisymm}
+use native.Mathlib.Nat.{mul-le-mul-left, mul-le-mul-right, mul-lt-mul-of-pos-left, mul-left-comm, mul-pos, mul-add, add-mul, mul-one, one-mul, div-mul-le-self, lt-div-mul-add, div-zero, lt-of-mul-lt-mul-right, le-antisymm}
 use native.Mathlib.Omega.{arith}
 use Rattle.arithmetic.specs.Rounding.{roundedUp}
 
@@ -89,6 +91,21 @@ up-whole q b h = record { some = h; low = omega arith; high = omega arith }
 
 pub up-zero : {b q : ℕ} → RoundedUp 0 b q → q ≡ 0
 up-zero {b} {q} u = let h : q ≤ 0 = fewer b q 0 (omega arith) in omega arith
+
+pub up-scaled : (c a b : ℕ) → 0 < c → 0 < b → roundedUp (c * a) (c * b) ≡ roundedUp a b
+up-scaled c a b h k =
+    let u = up-of a b k in
+    let q = roundedUp a b in
+    let scaled : RoundedUp (c * a) (c * b) q = record {
+      some = mul-pos h k;
+      low = subst (λ n. c * a ≤ n) (mul-left-comm c q b) (mul-le-mul-left c (u .low));
+      high = subst₂ _<_ (mul-left-comm c q b) (mul-add c a b) (mul-lt-mul-of-pos-left (u .high) h);
+    } in
+    up-unique (up-of (c * a) (c * b) (mul-pos h k)) scaled
+
+pub up-by-none : (a : ℕ) → roundedUp a 0 ≡ 0
+unfolding roundedUp
+up-by-none a = div-zero _
 
 pub up-le : {a b q : ℕ} → RoundedUp a b q → q ≤ a
 up-le {a} u = up-anti (subst (λ n. RoundedUp n 1 a) (mul-one a) (up-whole a 1 (omega arith))) u (u .some)

@@ -68,6 +68,16 @@ pub fn negated(n: u64) -> i64
     -signed(n - 1) - 1
 }
 
+// How far apart two whole numbers are.
+pub fn apart(a: u64, b: u64) -> u64
+    ensures { λ r. ⌜ r ≡ natAbs (pos a -ℤ pos b) ⌝ }
+{
+    if a < b {
+        return b - a;
+    }
+    a - b
+}
+
 // a less b, or the end of the signed numbers that is nearer.
 pub fn difference(a: u64, b: u64) -> i64
     ensures { λ r. ⌜ r ≡ nearest (pos a -ℤ pos b) ⌝ }
