@@ -5,6 +5,7 @@
 --     within-whole, whole-within            what that says of a whole number, and the other way
 --     within-size                           the same of the size of any number
 --     within-positive                       of a range from 0 on: each number is its own size
+--     wholes-in-range                       of a table of whole numbers of one range: none is above it, at any place
 --     half-breadths-in-range, particulars-in-range      the same as facts
 --     records-are                           what a count of whole records is
 -- Assumes nothing.
@@ -120,11 +121,14 @@ everywhere b [] h k = omega arith
 everywhere b (y ∷ rest) h zero = h zero (omega arith)
 everywhere b (y ∷ rest) h (suc k) = everywhere b rest (λ i l. h (suc i) (omega arith)) k
 
+pub wholes-in-range : (r : Range) (table : List ℕ) → length table ≤ firstOutside (r ∷ []) (map pos table) → (k : ℕ) → getD table k 0 ≤ most r
+wholes-in-range r table e =
+    everywhere (most r) table (λ k h.
+    let at = all-within (r ∷ []) (map pos table) (omega (arith, length-map table pos)) k (omega (arith, length-map table pos)) in
+    within-whole r (getD table k 0) (rw (mod-one, List·getD-map pos table k 0) at at) .1)
+
 pub half-breadths-in-range : (table : List ℕ) → length table ≤ firstOutside halfBreadth (map pos table) → HalfBreadthsInRange table
-half-breadths-in-range table e =
-    everywhere (most (rangeOf 5)) table (λ k h.
-    let at = all-within halfBreadth (map pos table) (omega (arith, length-map table pos)) k (omega (arith, length-map table pos)) in
-    within-whole (rangeOf 5) (getD table k 0) (rw (mod-one, List·getD-map pos table k 0) at at) .1)
+half-breadths-in-range = wholes-in-range (rangeOf 5)
 
 pub particulars-in-range : (p : Particulars) → length particulars ≤ badParticular p → ParticularsInRange p
 particulars-in-range p e =

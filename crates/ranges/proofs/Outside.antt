@@ -1,6 +1,8 @@
 -- The walk over a table for its first number out of range.
 --     outside-step, outside-here, outside-end     the walk at place i: on, ended, past the last number
 --     outside-le                                  the first number outside stands in the table, or after its end
+--     then-within, then-after                     of a table that others follow: a number outside stands in it, or further on
+--     then-inside                                 where none of so many numbers is outside: none of its own, and none of those that follow
 --     field-next, field-after-lt                  the field after a field
 --     section, Walking                            a section of the fields, and the walk over it at place i, whose number is of a field of its record
 --     walking-none, walking-more                  before the first number; one number more, in the code's `i + 1`
@@ -12,15 +14,16 @@ use mathlib.Core.List.{List, [], _∷_}
 use Prim.Native.Nat.{ℕ, suc, _+_, _%_, _≤_, _<_}
 use native.Mathlib.Nat.{mod-eq-of-lt, mod-self, mod-add-mod, zero-mod}
 use native.Mathlib.Omega.{arith}
-use borrow.Author.Tests.{ltb-true, ltb-false}
+use borrow.Author.Tests.{ltb-true, ltb-false, lt-ltb, le-ltb}
 use lib.Dec.{ltb}
 use lib.IntN.{ℤ, pos}
 use lib.ListN.{length, getD, take, drop, drop-of-length-le, length-drop}
 use lib.Seq.{getD-take, getD-drop, length-take-le}
 use Rattle.arithmetic.proofs.Choice.{chosen, if-either}
 use Rattle.arithmetic.proofs.Parts.{drop-step}
+use Rattle.arithmetic.proofs.Tests.{by-test}
 use Rattle.ranges.specs.Fields.{Range, _to_, within, fields, rangeOf}
-use Rattle.ranges.specs.Outside.{outsideFrom, firstOutside, fieldAfter}
+use Rattle.ranges.specs.Outside.{outsideFrom, firstOutside, outsideThen, fieldAfter}
 
 module _ (section : List Range) (table : List ℤ) (i : ℕ) where
   pub outside-step : i < length table → within (getD section (i % length section) (1 to 0)) (getD table i (pos 0)) ≡ true → outsideFrom section (i + 1) (drop (i + 1) table) ≡ outsideFrom section i (drop i table)
@@ -44,6 +47,21 @@ outside-from-le section place (v ∷ rest) =
 pub outside-le : (section : List Range) (table : List ℤ) → firstOutside section table ≤ length table
 unfolding firstOutside
 outside-le section table = omega (arith, outside-from-le section 0 table)
+
+module _ (section : List Range) (table : List ℤ) (further : ℕ) where
+  pub then-within : firstOutside section table < length table → outsideThen section table further ≡ firstOutside section table
+  unfolding outsideThen
+  then-within h = simp (lt-ltb _ _ h, chosen)
+
+  pub then-after : length table ≤ firstOutside section table → outsideThen section table further ≡ length table + further
+  unfolding outsideThen
+  then-after h = simp (le-ltb _ _ h, chosen)
+
+  pub then-inside : (more : ℕ) → length table + more ≤ outsideThen section table further → (length table ≤ firstOutside section table) × (more ≤ further)
+  then-inside more h =
+      by-test (ltb (firstOutside section table) (length table))
+      (λ t. let in-it = ltb-true (firstOutside section table) (length table) t in absurd (omega (arith, then-within in-it)))
+      (λ t. let after-it = ltb-false (firstOutside section table) (length table) t in (after-it, omega (arith, then-after after-it)))
 
 -- the field after field k, which number i of a table has, is that of number i + 1
 pub field-next : (i k width : ℕ) → k ≡ i % width → k < width → fieldAfter k width ≡ (i + 1) % width

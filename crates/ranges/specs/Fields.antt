@@ -58,9 +58,13 @@ zRange = 0 to 30_000
 abbrev pub item : List Range
 item = 0 to 300_000 ∷ xRange ∷ yRange ∷ zRange ∷ []
 
--- contents kg; capacity kg; x, y, z as for items; length mm; breadth mm; liquid density, kg/m³
+-- kg/m³
+abbrev pub liquidDensity : Range
+liquidDensity = 1 to 1_500
+
+-- contents kg; capacity kg; x, y, z as for items; length mm; breadth mm; liquid density
 abbrev pub tank : List Range
-tank = 0 to 400_000 ∷ 1 to 400_000 ∷ xRange ∷ yRange ∷ zRange ∷ 1 to 10_000 ∷ 1 to 8_000 ∷ 1 to 1_500 ∷ []
+tank = 0 to 400_000 ∷ 1 to 400_000 ∷ xRange ∷ yRange ∷ zRange ∷ 1 to 10_000 ∷ 1 to 8_000 ∷ liquidDensity ∷ []
 
 -- "KM above 100,000" is refused with 9: the highest KM of a row
 abbrev pub highestMetacentre : ℕ
@@ -71,9 +75,17 @@ abbrev pub rowRanges : List Range
 rowRanges =
     20 to 10_000 ∷ 1 to 17_600_000 ∷ 0 to 100_000 ∷ 0 to 10_000 ∷ 0 to 100_000 ∷ 0 to highestMetacentre ∷ 0 to 1_600_000_000 ∷ []
 
--- all fields by number: those of the file in its order, 0..4 particulars, 5 a half-breadth, 6..9 an item, 10..17 a tank; then 18..24 a row
+-- a hopper tank's free surface: "widths to port p and to starboard q, 0..1,500 mm", "equal intervals h of 50..1,000 mm"
+abbrev pub hopperWidth : List Range
+hopperWidth = 0 to 1_500 ∷ []
+
+abbrev pub hopperInterval : List Range
+hopperInterval = 50 to 1_000 ∷ []
+
+-- all fields by number: those of the file in its order, 0..4 particulars, 5 a half-breadth, 6..9 an item, 10..17 a tank; then 18..24 a row;
+-- 25 a width and 26 the interval of a hopper
 abbrev pub fields : List Range
-fields = particulars ++ halfBreadth ++ item ++ tank ++ rowRanges
+fields = particulars ++ halfBreadth ++ item ++ tank ++ rowRanges ++ hopperWidth ++ hopperInterval
 
 -- no number is in the range of a field that there is not
 abbrev pub rangeOf : ℕ → Range

@@ -22,6 +22,12 @@ outsideFrom section place (v ∷ rest) =
 unfoldable pub firstOutside : List Range → List ℤ → ℕ
 firstOutside section table = outsideFrom section 0 table
 
+-- The same in tables one after another, places counted on from the first number of the first: of one table, and `further` on in those that follow it.
+unfoldable pub outsideThen : List Range → List ℤ → ℕ → ℕ
+outsideThen section table further =
+    let outside = firstOutside section table in
+    if ltb outside (length table) then outside else length table + further
+
 -- the field after a field of a record, where a record's fields follow one another again and again
 unfoldable pub fieldAfter : ℕ → ℕ → ℕ
 fieldAfter field width = if ltb (field + 1) width then field + 1 else 0

@@ -5,7 +5,7 @@ ghost use lib.IntN.{pos};
 ghost use lib.ListN.{length, take, drop};
 ghost use Prim.Native.Nat.{_+_, _<_, _≤_};
 ghost use Rattle.ranges.specs.Private.Bounds.{boundsOf};
-ghost use Rattle.ranges.specs.Fields.{_to_, within, rangeOf, fields, halfBreadth, item, tank, rowRanges};
+ghost use Rattle.ranges.specs.Fields.{_to_, within, rangeOf, fields, halfBreadth, item, tank, rowRanges, hopperWidth};
 ghost use Rattle.ranges.specs.Limits.{limits};
 ghost use Rattle.ranges.specs.Outside.{fieldAfter, firstOutside, tooLong, badParticular};
 ghost use Rattle.ranges.specs.Sides.{sidesOf};
@@ -110,6 +110,14 @@ pub const TANK: usize = ITEM + ITEM_WIDTH;
 
 pub const ROW: usize = TANK + TANK_WIDTH;
 
+// The last of a tank's numbers.
+pub const LIQUID_DENSITY: usize = ROW - 1;
+
+// A width of a hopper tank's free surface, and the interval between widths.
+pub const HOPPER_WIDTH: usize = ROW + ROW_WIDTH;
+
+pub const HOPPER_INTERVAL: usize = HOPPER_WIDTH + 1;
+
 // The most intervals of length, n, and of draft, m; the greatest length, n·s, and the highest KM of a row, in mm.
 pub const MOST_LENGTH_INTERVALS: u64 = 80;
 
@@ -184,6 +192,8 @@ fn bounds_of(field: usize) -> Bounds
         22 => Bounds(0, 100_000, FROM_0), // BM
         23 => Bounds(0, HIGHEST_METACENTRE, FROM_0), // KM
         24 => Bounds(0, 1_600_000_000, FROM_0), // waterplane area
+        25 => Bounds(0, 1_500, FROM_0), // hopper: width
+        26 => Bounds(50, 1_000, FROM_0), // interval
         _ => Bounds(1, 0, FROM_0),
     }
 }
@@ -268,6 +278,13 @@ pub fn half_breadth_outside(table: &[u64]) -> usize
     ensures { λ r. ⌜ r ≡ firstOutside halfBreadth (map pos (now (table .entry))) ⌝ }
 {
     whole_outside(table, HALF_BREADTH, 1)
+}
+
+// The place of the first of a hopper's widths out of range, or the table's length.
+pub fn hopper_width_outside(table: &[u64]) -> usize
+    ensures { λ r. ⌜ r ≡ firstOutside hopperWidth (map pos (now (table .entry))) ⌝ }
+{
+    whole_outside(table, HOPPER_WIDTH, 1)
 }
 
 // The place of the first number of a table of rows out of range, or the table's length.

@@ -53,4 +53,6 @@ bounds-of-spec =
     (λ c. at-field (c .match .keys23))
     (λ c. at-field (c .match .keys24))
     (λ c. at-field (c .match .keys25))
+    (λ c. at-field (c .match .keys26))
+    (λ c. at-field (c .match .keys27))
     (λ c. beyond-last (c .before .args .field) (c .match .rest)))
