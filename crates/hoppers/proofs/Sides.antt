@@ -1,0 +1,73 @@
+-- One side of a free surface, and the two together.
+--     powers-le                                  no width is above the widest, nor its square and cube above theirs
+--     side-most                                  how large a side's sums are
+--     widths-most, squares-most, cubes-most      and on the way, width by width
+--     A-by-sides, M-by-sides, I-by-sides         A and I are what both sides give, M what starboard gives less what port gives
+-- Assumes nothing.
+use mathlib.Core.Path.{_≡_, refl, sym, ap, ap₂, _∙_}
+use mathlib.Core.List.{List}
+use Prim.Native.Nat.{ℕ, _+_, _-_, _*_, _^_, _≤_}
+use native.Mathlib.Nat.{le-trans, mul-le-mul, pow-le-pow-left}
+use native.Mathlib.Omega.{arith}
+use lib.IntN.{ℤ, pos, negsuc, _+ℤ_, _-ℤ_, _*ℤ_}
+use lib.ListN.{length, getD}
+use Rattle.ranges.specs.Fields.{rangeOf, most}
+use Rattle.arithmetic.proofs.Integer.{solveℤ}
+use Rattle.arithmetic.proofs.Polynomial.{con, _:+_, _:*_, :-_}
+use Rattle.simpson.specs.Curve.{curve, curveℤ}
+use Rattle.simpson.proofs.Curves.{curve-plus, curveℤ-same, curveℤ-plus, curveℤ-times, pos-curve}
+use Rattle.simpson.proofs.Moments.{curve-le}
+use Rattle.simpson.proofs.Sweep.{Swept, swept-le}
+use Rattle.hoppers.specs.Private.Side.{SideInRange, sideOf, mostWidths, mostSquares, mostCubes}
+use Rattle.hoppers.specs.Surface.{A, M, I}
+
+pub powers-le : {w : ℕ} → w ≤ most (rangeOf 25) → (w * w ≤ most (rangeOf 25) ^ 2) × (w * w * w ≤ most (rangeOf 25) ^ 3)
+powers-le h = (mul-le-mul h h, mul-le-mul (mul-le-mul h h) h)
+
+module _ {widths : List ℕ} (side : SideInRange widths) where
+  abbrev wide : ℕ → ℕ
+  wide i = getD widths i 0
+
+  pub side-most : (sideOf widths .widths ≤ mostWidths) × (sideOf widths .squares ≤ mostSquares) × (sideOf widths .cubes ≤ mostCubes)
+  side-most = (
+    omega (arith, side .count-most, curve-le (length widths - 1) (most (rangeOf 25)) wide (λ i l. side .none-wider i)),
+    omega (arith, side .count-most, curve-le (length widths - 1) (most (rangeOf 25) ^ 2) (λ i. wide i ^ 2) (λ i l. pow-le-pow-left (side .none-wider i) 2)),
+    omega (arith, side .count-most, curve-le (length widths - 1) (most (rangeOf 25) ^ 3) (λ i. wide i ^ 3) (λ i l. pow-le-pow-left (side .none-wider i) 3)),
+  )
+
+  module _ {i s : ℕ} where
+    pub widths-most : Swept (length widths - 1) (λ i. getD widths i 0) i s → s ≤ mostWidths
+    widths-most so = le-trans (swept-le so) (side-most .0)
+
+    pub squares-most : Swept (length widths - 1) (λ i. getD widths i 0 ^ 2) i s → s ≤ mostSquares
+    squares-most so = le-trans (swept-le so) (side-most .1)
+
+    pub cubes-most : Swept (length widths - 1) (λ i. getD widths i 0 ^ 3) i s → s ≤ mostCubes
+    cubes-most so = le-trans (swept-le so) (side-most .2)
+
+module _ (port starboard : List ℕ) (as-many : length port ≡ length starboard) where
+  abbrev n : ℕ
+  n = length port - 1
+
+  pub A-by-sides : sideOf port .widths + sideOf starboard .widths ≡ A port starboard
+  unfolding A
+  A-by-sides =
+      sym (curve-plus n (λ i. getD port i 0) (λ i. getD starboard i 0)
+      ∙ ap (λ k. curve n (λ i. getD port i 0) + curve (k - 1) (λ i. getD starboard i 0)) as-many)
+
+  pub I-by-sides : sideOf port .cubes + sideOf starboard .cubes ≡ I port starboard
+  unfolding I
+  I-by-sides =
+      sym (curve-plus n (λ i. getD port i 0 ^ 3) (λ i. getD starboard i 0 ^ 3)
+      ∙ ap (λ k. curve n (λ i. getD port i 0 ^ 3) + curve (k - 1) (λ i. getD starboard i 0 ^ 3)) as-many)
+
+  pub M-by-sides : pos (sideOf starboard .squares) -ℤ pos (sideOf port .squares) ≡ M port starboard
+  unfolding M
+  M-by-sides =
+      let q² : ℕ → ℤ = λ i. pos (getD starboard i 0 ^ 2) in
+      let p² : ℕ → ℤ = λ i. pos (getD port i 0 ^ 2) in
+      ap₂ _-ℤ_ (ap (λ k. pos (curve (k - 1) (λ i. getD starboard i 0 ^ 2))) (sym as-many) ∙ pos-curve n _) (pos-curve n _)
+      ∙ solveℤ 2 (λ q p. q :+ :- p) (λ q p. q :+ con (negsuc 0) :* p) refl (curveℤ n q²) (curveℤ n p²)
+      ∙ sym (curveℤ-same n (λ i. q² i -ℤ p² i) (λ i. q² i +ℤ negsuc 0 *ℤ p² i) (λ i l. solveℤ 2 (λ q p. q :+ :- p) (λ q p. q :+ con (negsuc 0) :* p) refl (q² i) (p² i))
+      ∙ curveℤ-plus n q² (λ i. negsuc 0 *ℤ p² i)
+      ∙ ap (λ x. curveℤ n q² +ℤ x) (curveℤ-times n (negsuc 0) p²))
