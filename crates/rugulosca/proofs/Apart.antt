@@ -1,6 +1,6 @@
 -- The number that a call returns tells an answer from a refusal.
 --     apart     so it is of every outcome whose refusals have these numbers
---     report-apart, read-apart, write-apart, rows-apart, display-apart, condition-apart     and so of each call, by what it promises
+--     report-apart, read-apart, write-apart, rows-apart, display-apart, surface-apart, condition-apart     and so of each call, by what it promises
 --     load-apart, discharge-apart, shift-apart, aboard-apart                                the running tally's too
 -- Assumes nothing.
 use Prim.Native.Nat.{ℕ}
@@ -17,6 +17,8 @@ use Rattle.offsets.specs.Reader.{readerOf, summaryOf, summarised}
 use Rattle.writer.specs.Writer.{writerOf, lengthOf}
 use Rattle.offsets.proofs.Numbered.{reader-numbered}
 use Rattle.writer.proofs.Numbered.{writer-numbered}
+use Rattle.hoppers.specs.Hopper.{surfaceOf}
+use Rattle.hoppers.proofs.Numbered.{surface-numbered}
 use Rattle.hydrostatics.specs.Display.{displayOf}
 use Rattle.hydrostatics.specs.Promise.{rowCount, countOf}
 use Rattle.hydrostatics.specs.Rows.{rowsOf}
@@ -34,7 +36,7 @@ use Rattle.tally.proofs.Numbered as Tally
 use Rattle.report.specs.Promise.{reportBy}
 use Rattle.report.proofs.Numbered.{report-numbered}
 use Rattle.rugulosca.specs.Panel.{Kept, keptOf}
-use Rattle.rugulosca.specs.Told.{numberOf, Tells, Apart, summaryNumbers, figureNumbers, wholesOf}
+use Rattle.rugulosca.specs.Told.{numberOf, Tells, Apart, summaryNumbers, figureNumbers, surfaceNumbers, wholesOf}
 use Rattle.rugulosca.proofs.Telling.{told-apart}
 
 pub apart : {A B : Type 0} {value : A → B} {o : Outcome A} {was left : B} {place placeLeft number : ℕ} → Numbered o → Tells value o was left place placeLeft number → Apart o number
@@ -66,6 +68,9 @@ module _ {place placeLeft number : ℕ} where
 
   pub display-apart : (row : Row) {was left : List Float} → Tells figureNumbers (displayOf row) was left place placeLeft number → Apart (displayOf row) number
   display-apart row t = apart (display-numbered row) t
+
+  pub surface-apart : (port starboard : List ℕ) (h density : ℕ) {was left : List ℕ} → Tells surfaceNumbers (surfaceOf port starboard h density) was left place placeLeft number → Apart (surfaceOf port starboard h density) number
+  surface-apart port starboard h density t = apart (surface-numbered port starboard h density) t
 
   pub condition-apart : (reading : Reading) (items tanks : List ℤ) (rows : List ℕ) {was left : List ℕ}
       → Tells wholesOf (conditionBy reading items tanks rows) was left place placeLeft number → Apart (conditionBy reading items tanks rows) number

@@ -5,6 +5,7 @@ use mathlib.Core.List.{List, [], _∷_}
 use mathlib.Core.Path.{_≡_}
 use lib.Ieee.{Float}
 use lib.IntN.{ℤ}
+use Rattle.hoppers.specs.declared.FreeSurface.{FreeSurface}
 use Rattle.hydrostatics.specs.declared.Figures.{Figures}
 use Rattle.loading.specs.declared.Condition.{Condition}
 use Rattle.loading.specs.declared.Heel.{Heel}
@@ -46,6 +47,10 @@ summaryNumbers s =
 -- the seven figures of a displayed row, in its order
 abbrev pub figureNumbers : Figures → List Float
 figureNumbers f = f .draft ∷ f .displacement ∷ f .lcb ∷ f .kb ∷ f .bm ∷ f .km ∷ f .area ∷ []
+
+-- a free surface: its inertia and its moment
+abbrev pub surfaceNumbers : FreeSurface → List ℕ
+surfaceNumbers s = s .inertia ∷ s .moment ∷ []
 
 -- how the vessel lies: 0 unstable, 1 upright, 2 heeled, 3 beyond
 abbrev pub lie : Heel → ℕ

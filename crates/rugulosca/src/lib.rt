@@ -4,6 +4,7 @@ mod conditions;
 mod files;
 mod hulls;
 mod sheets;
+mod surfaces;
 mod tallies;
 
 // What a call returns that is not refused.
