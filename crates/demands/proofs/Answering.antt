@@ -1,6 +1,6 @@
 -- Demand 1, call by call: the promise's own outcome makes one answer that keeps it; that no other does is the promise's uniqueness, and that a refusal's number is the
 -- paper's its numbering.
---     sheet-answers, reader-answers, writer-answers, rows-answer, display-answers, condition-answers, totals-answer, step-answers, aboard-answers
+--     sheet-answers, reader-answers, writer-answers, rows-answer, display-answers, hopper-answers, condition-answers, totals-answer, step-answers, aboard-answers
 -- Assumes nothing.
 use mathlib.Core.Path.{_≡_, refl, sym, subst, _∙_}
 use mathlib.Core.List.{List, map}
@@ -28,6 +28,11 @@ use Rattle.offsets.proofs.Numbered.{reader-numbered}
 use Rattle.writer.proofs.Numbered.{writer-numbered}
 use Rattle.offsets.proofs.Unique.{reads-unique}
 use Rattle.writer.proofs.Unique.{writes-unique}
+use Rattle.hoppers.specs.Hopper.{MakesSurface, surfaceOf}
+use Rattle.hoppers.specs.Hopper as Hopper
+use Rattle.hoppers.specs.declared.Answer.the-variants as Surface
+use Rattle.hoppers.proofs.Numbered.{surface-numbered}
+use Rattle.hoppers.proofs.Unique.{surface-unique}
 use Rattle.hydrostatics.specs.Display as Display
 use Rattle.hydrostatics.specs.Display.{displayOf}
 use Rattle.hydrostatics.specs.Promise.{MakesRows, rowCount, countOf, tableAfter}
@@ -153,7 +158,7 @@ module _ (halfBreadths : List ℕ) (p : Particulars) (rows : List ℕ) where
         untouched = λ e. left-refused _ numbers rows (with-refused rowCount numbers (sym (t .is) ∙ e));
       }
 
--- ---- the display and the condition
+-- ---- the display, a hopper's surface and the condition
 pub display-answers : (row : Row) → AnswersOrRefuses (λ (answer : Displayed). Display.paper answer ≡ displayOf row) Display.paper (λ answer. Unit)
 display-answers row =
     let t = told Display.paper Displayed.Shown Displayed.Refused (λ v. refl) (λ r. refl) (displayOf row) in
@@ -162,6 +167,18 @@ display-answers row =
       kept = t .is;
       only = λ other k. display-unique row k (t .is);
       numbered = numbered-as t (display-numbered row);
+      untouched = λ e. tt;
+    }
+
+pub hopper-answers : (port starboard : List ℕ) (h density : ℕ) → AnswersOrRefuses (MakesSurface port starboard h density) Hopper.paper (λ answer. Unit)
+hopper-answers port starboard h density =
+    let t = told Hopper.paper Surface.Found Surface.Refused (λ v. refl) (λ r. refl) (surfaceOf port starboard h density) in
+    let kept : MakesSurface port starboard h density (t .answer) = record { answer-is = t .is } in
+    record {
+      back = t .answer;
+      kept = kept;
+      only = λ other k. surface-unique k kept;
+      numbered = numbered-as t (surface-numbered port starboard h density);
       untouched = λ e. tt;
     }
 

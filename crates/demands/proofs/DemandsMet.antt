@@ -8,6 +8,9 @@ use lib.IntN.{ℤ, pos}
 use Rattle.simpson.proofs.Front.{curve-two, curve-three, curve-off}
 use Rattle.simpson.proofs.Moments.{curve-exact, answer-exact}
 use Rattle.writer.proofs.Calls.{write-then-read}
+use Rattle.hoppers.proofs.Answered.{shifted-alike, rectangle-answered, by-formula, without-width}
+use Rattle.hoppers.proofs.Numerator.{never-negative}
+use Rattle.hoppers.proofs.Rectangle.{rectangle-exact}
 use Rattle.hydrostatics.specs.Hull.{halfBreadth}
 use Rattle.hydrostatics.specs.Row.{waterlineOf}
 use Rattle.hydrostatics.specs.Private.Sections.{areaAt, momentAt}
@@ -32,10 +35,11 @@ use Rattle.rugulosca.specs.Told.{placeAfter, valueAfter}
 use Rattle.rugulosca.proofs.Apart.{apart}
 use Rattle.demands.specs.Conditioned.{Conditioned, IsCondition}
 use Rattle.demands.specs.Demands.{Demand1, Demand2, Demand3, Demands}
+use Rattle.demands.specs.HopperTanks.{HopperTanks}
 use Rattle.demands.specs.RunningTally.{RunningTally}
 use Rattle.demands.specs.SecondCalculation.{SecondCalculation}
 use Rattle.demands.specs.TwoReadings.{TwoReadings}
-use Rattle.demands.proofs.Answering.{sheet-answers, reader-answers, writer-answers, rows-answer, display-answers, condition-answers, totals-answer, step-answers, aboard-answers}
+use Rattle.demands.proofs.Answering.{sheet-answers, reader-answers, writer-answers, rows-answer, display-answers, hopper-answers, condition-answers, totals-answer, step-answers, aboard-answers}
 use Rattle.demands.proofs.Longer.{longer-tables}
 
 demand-1 : Demand1
@@ -45,6 +49,7 @@ demand-1 = record {
   of-the-writer = writer-answers;
   of-the-rows = rows-answer;
   of-the-display = display-answers;
+  of-a-hopper = hopper-answers;
   of-the-condition = condition-answers;
   of-a-step = step-answers;
   of-the-totals = totals-answer;
@@ -115,6 +120,17 @@ second-calculation = record {
   engines-agree = makes-rows-unique;
 }
 
+hopper-tanks : HopperTanks
+hopper-tanks = record {
+  follows-the-formula = by-formula;
+  nothing-without-width = without-width;
+  numerator-never-negative = never-negative;
+  middle-line-anywhere = shifted-alike;
+  rectangles-are-exact = λ n p q h enough. rectangle-exact n enough p q h;
+  rectangles-are-answered = λ n p q made. rectangle-answered n p q made .1;
+  condition-keeps-rectangles = λ reading. refl;
+}
+
 pub demands-met : Demands
 demands-met = record {
   demand-1 = demand-1;
@@ -124,4 +140,5 @@ demands-met = record {
   two-readings = two-readings;
   second-calculation = second-calculation;
   longer-tables = longer-tables;
+  hopper-tanks = hopper-tanks;
 }

@@ -20,6 +20,8 @@ use Rattle.writer.specs.Writer.{Writes}
 use Rattle.offsets.specs.declared.Read.{Read}
 use Rattle.writer.specs.declared.Written.{Written}
 use Rattle.writer.specs.declared.Written.the-variants.{Wrote}
+use Rattle.hoppers.specs.Hopper as Hopper
+use Rattle.hoppers.specs.Hopper.{MakesSurface}
 use Rattle.hydrostatics.specs.Display as Display
 use Rattle.hydrostatics.specs.Display.{displayOf}
 use Rattle.hydrostatics.specs.Hull.{halfBreadth, Q}
@@ -58,6 +60,7 @@ use Rattle.report.specs.declared.Report.{Report as Reported}
 use Rattle.rugulosca.specs.Told.{Tells, Apart}
 use Rattle.demands.specs.Answering.{AnswersOrRefuses}
 use Rattle.demands.specs.Conditioned.{Conditioned, IsCondition}
+use Rattle.demands.specs.HopperTanks.{HopperTanks}
 use Rattle.demands.specs.LongerTables.{LongerTables}
 use Rattle.demands.specs.RunningTally.{RunningTally}
 use Rattle.demands.specs.SecondCalculation.{SecondCalculation}
@@ -80,6 +83,8 @@ pub record Demand1 : Type 1 where
   -- these are lent nothing for writing
   pub of-the-display : (row : Row)
       → AnswersOrRefuses (λ (answer : Displayed). Display.paper answer ≡ displayOf row) Display.paper (λ answer. Unit)
+  pub of-a-hopper : (port starboard : List ℕ) (h density : ℕ)
+      → AnswersOrRefuses (MakesSurface port starboard h density) Hopper.paper (λ answer. Unit)
   pub of-the-condition : (reading : Reading) (items tanks : List ℤ) (rows : List ℕ)
       → AnswersOrRefuses (Conditioned reading items tanks rows) Loading.paper (λ answer. Unit)
   pub of-the-totals : (items : List ℤ)
@@ -133,3 +138,4 @@ pub record Demands : Type 1 where
   pub two-readings : TwoReadings
   pub second-calculation : SecondCalculation
   pub longer-tables : LongerTables
+  pub hopper-tanks : HopperTanks
