@@ -10,13 +10,19 @@ pub(crate) const NUMBERS: u64 = 1_000;
 // No name is longer.
 const LONGEST_NAME: usize = 21;
 
+// A call that has cases of its own.
+pub(crate) enum Call {
+    Tally,
+    Hopper,
+}
+
 // What a file holds: the offsets of NNN.txt and the sheet of NNN.out, or of straight-line-NNN.txt and straight-line-NNN.out where KM is read
-// so; the steps of tally-NNN.in and the answers of tally-NNN.out.
+// so; what is given to a call and its answer, tally-NNN.in and tally-NNN.out, hopper-NNN.in and hopper-NNN.out.
 pub(crate) enum Kind {
     Offsets(Reading),
     Sheet(Reading),
-    Steps,
-    Answers,
+    Given(Call),
+    Answer(Call),
 }
 
 // One more where it is so.
@@ -67,13 +73,23 @@ fn open_by(reading: Reading, i: u64, end: &[u8]) -> i32
     }
 }
 
+// Opens the file of a call.
+fn open_of(call: Call, i: u64, end: &[u8]) -> i32
+    requires { ⌜ length (now end) ≤ 4 ⌝ }
+{
+    match call {
+        Call::Tally => open_named(b"tally-", i, end),
+        Call::Hopper => open_named(b"hopper-", i, end),
+    }
+}
+
 // Opens the file of this kind and number.
 fn open(kind: Kind, i: u64) -> i32 {
     match kind {
         Kind::Offsets(reading) => open_by(reading, i, b".txt"),
         Kind::Sheet(reading) => open_by(reading, i, b".out"),
-        Kind::Steps => open_named(b"tally-", i, b".in"),
-        Kind::Answers => open_named(b"tally-", i, b".out"),
+        Kind::Given(call) => open_of(call, i, b".in"),
+        Kind::Answer(call) => open_of(call, i, b".out"),
     }
 }
 

@@ -1,4 +1,5 @@
-// Runs what is not proved by computing: outside files and steps, their hulls by both engines, a worked example, and conditions at their limits. What it must print stands in stdout.
+// Runs what is not proved by computing: outside files, their hulls by both engines, outside cases of the other calls, a worked example, and conditions at their limits. What it must print stands in stdout.
+mod calls;
 mod conditions;
 mod curves;
 mod data;
@@ -6,12 +7,13 @@ mod files;
 mod hulls;
 mod places;
 mod say;
+mod surfaces;
 mod tallies;
 
 fn main() {
     files::try_all();
     hulls::try_all();
-    tallies::try_all();
+    calls::try_all();
     curves::print_all();
     conditions::print_all();
 }

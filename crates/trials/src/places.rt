@@ -1,5 +1,6 @@
 // Places in a text. What stands at a place gives the place after it; where something else stands there, that is NOWHERE, at which nothing stands.
 use numerals::Numeral;
+use ranges::Refusal;
 
 // No text is so long.
 pub(crate) const NOWHERE: usize = usize::MAX;
@@ -73,4 +74,17 @@ pub(crate) fn whole_at(text: &[u8], at: usize) -> Whole {
         value: arithmetic::magnitude(number.value) as usize,
         next: number.next,
     }
+}
+
+// The whole number after a space.
+pub(crate) fn whole_after(text: &[u8], at: usize) -> Whole {
+    whole_at(text, after(text, at, b" "))
+}
+
+// The place after the line of a refusal: E, its number and its place.
+pub(crate) fn after_refusal(text: &[u8], at: usize, refusal: Refusal) -> usize {
+    let mark = after(text, at, b"E");
+    let number = after_number(text, mark, arithmetic::signed(refusal.number));
+    let place = after_number(text, number, arithmetic::signed(refusal.place as u64));
+    after(text, place, b"\n")
 }

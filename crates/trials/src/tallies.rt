@@ -1,22 +1,12 @@
-// The cases of the running tally in data/: every tally-NNN.in, a count and so many steps, with the answer tally-NNN.out beside it, a line a step.
-use crate::data;
-use crate::data::Kind;
+// A case of the running tally: a count and so many steps, and its answer, a line a step.
 use crate::places;
 use crate::places::NOWHERE;
-use crate::say;
 use loading::Totals;
-use ranges::Refusal;
 use tally::Answer;
 use tally::Item;
 use tally::Place;
 use tally::Stepped;
 use tally::Tally;
-
-// There are no fewer than these, so that a lost one is noticed.
-const FEWEST: u64 = 40;
-
-// Room for a case, and for its answer.
-const LONGEST: usize = 16_384;
 
 // Where an item is to stand, and the place after its numbers.
 struct Placed {
@@ -30,49 +20,8 @@ struct Taken {
     next: usize,
 }
 
-// Prints which cases fail and how many, and where some are lost.
-pub(crate) fn try_all() {
-    let mut tried: u64 = 0;
-    let mut differing: u64 = 0;
-    let mut i: u64 = 0;
-    while i < data::NUMBERS {
-        let there = data::is_there(Kind::Steps, i);
-        let differs = is_differing(i, there);
-        tried = data::counted(tried, there);
-        differing = data::counted(differing, differs);
-        print_failing(i, differs);
-        i += 1;
-    }
-    say::number(b"tallies that differ ", differing);
-    if tried < FEWEST {
-        say::number(b"tallies are lost, and only these left ", tried);
-    }
-}
-
-// Names a case that differs.
-fn print_failing(i: u64, differs: bool) {
-    if differs {
-        say::number(b"fails tally ", i);
-    }
-}
-
-// Whether a case that is there has no answer beside it, or not its own.
-fn is_differing(i: u64, there: bool) -> bool {
-    if !there {
-        return false;
-    }
-    if !data::is_there(Kind::Answers, i) {
-        return true;
-    }
-    let mut text = [0u8; LONGEST];
-    let mut answer = [0u8; LONGEST];
-    let text_count = data::read(Kind::Steps, i, &mut text);
-    let answer_count = data::read(Kind::Answers, i, &mut answer);
-    !is_answered(&text[..text_count], &answer[..answer_count])
-}
-
 // Whether the steps of a text, taken from an empty tally on, give the answer's lines, and nothing is left of either.
-fn is_answered(text: &[u8], answer: &[u8]) -> bool {
+pub(crate) fn is_answered(text: &[u8], answer: &[u8]) -> bool {
     let count = places::whole_at(text, 0);
     let steps = count.value;
     let mut next = places::after(text, count.next, b"\n");
@@ -167,7 +116,7 @@ fn after_answer(text: &[u8], at: usize, stepped: Stepped) -> usize {
     let answer = stepped.answer;
     match answer {
         Answer::Done => after_totals(text, at, tally.totals),
-        Answer::Refused(refusal) => after_refusal(text, at, refusal),
+        Answer::Refused(refusal) => places::after_refusal(text, at, refusal),
     }
 }
 
@@ -179,12 +128,4 @@ fn after_totals(text: &[u8], at: usize, totals: Totals) -> usize {
     let vertical = places::after_number(text, longitudinal, arithmetic::signed(totals.vertical));
     let transverse = places::after_number(text, vertical, totals.transverse);
     places::after(text, transverse, b"\n")
-}
-
-// The place after the line of a refusal: E, its number and its place.
-fn after_refusal(text: &[u8], at: usize, refusal: Refusal) -> usize {
-    let mark = places::after(text, at, b"E");
-    let number = places::after_number(text, mark, arithmetic::signed(refusal.number));
-    let place = places::after_number(text, number, arithmetic::signed(refusal.place as u64));
-    places::after(text, place, b"\n")
 }

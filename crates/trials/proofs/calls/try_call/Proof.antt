@@ -2,14 +2,14 @@
 use Prim.Native.Nat.{_≤_, _-_}
 use native.Mathlib.Omega.{arith}
 use borrow.Author.Needs.{needs}
-use Rattle.trials.proofs.tallies.try_all.Statement.{statement}
-use Rattle.trials.proofs.tallies.try_all.Tie as tie
+use Rattle.trials.proofs.calls.try_call.Statement.{statement}
+use Rattle.trials.proofs.calls.try_call.Tie as tie
 
 abbrev Inv-loop : tie.InvT-loop
-Inv-loop tried₀ differing₀ i₀ t6 t7 tried differing i = (tried ≤ i) × (differing ≤ i) × (i ≤ 1000)
+Inv-loop call fewest name tried₀ differing₀ i₀ t9 tried differing i = (tried ≤ i) × (differing ≤ i) × (i ≤ 1000)
 
 abbrev μ-loop : tie.MeasureT-loop
-μ-loop tried₀ differing₀ i₀ t6 t7 tried differing i = 1000 - i
+μ-loop call fewest name tried₀ differing₀ i₀ t9 tried differing i = 1000 - i
 
 loop-holds : tie.Need-loop-holds Inv-loop μ-loop
 loop-holds c = (omega arith, omega arith, omega arith)
@@ -44,9 +44,6 @@ slice-aggregate-number c = search needs
 number-requires : tie.Need-number-requires Inv-loop μ-loop
 number-requires c κs = search needs
 
-slice-aggregate-number-2 : tie.Need-slice-aggregate-number-2 Inv-loop μ-loop
-slice-aggregate-number-2 c = search needs
-
 number-requires-2 : tie.Need-number-requires-2 Inv-loop μ-loop
 number-requires-2 c κs = search needs
 
@@ -56,8 +53,8 @@ returns c = search needs
 returns-2 : tie.Need-returns-2 Inv-loop μ-loop
 returns-2 c = search needs
 
-pub try-all-spec : {M : Type 1} → statement M
-try-all-spec =
+pub try-call-spec : {M : Type 1} → statement M
+try-call-spec =
     tie.close
     (tie.spec
     Inv-loop
@@ -71,9 +68,8 @@ try-all-spec =
     add-i
     loop-less
     loop-again
-    slice-aggregate-number
     number-requires
-    slice-aggregate-number-2
+    slice-aggregate-number
     number-requires-2
     returns
     returns-2)
