@@ -106,6 +106,16 @@ uint64_t rugulosca_rows_by_sections(const uint64_t *half_breadths, size_t half_b
 /* One row in metres, tonnes and square metres. */
 uint64_t rugulosca_display(const uint64_t row[7], double figures[7], size_t *place);
 
+/* The free surface of a tank that is not a rectangle, by its widths to port and to starboard of a line along the tank: mm,
+ * 0 to 1,500, as many to port as to starboard, 3 to 11, at equal intervals of 50 to 1,000 mm; and the liquid's density, 1
+ * to 1,500 kg/m3. `surface`: the inertia about the surface's own centre, mm4, and the moment, kg mm. The place of 7
+ * (unequal tables, or a wrong count) is 0; that of 4 is the number's position from 0 in the widths to port, those to
+ * starboard, the interval, the density. A condition takes no such surface: it keeps rectangles. */
+uint64_t rugulosca_hopper_surface(const uint64_t *port, size_t port_length,
+                                  const uint64_t *starboard, size_t starboard_length,
+                                  uint64_t interval, uint64_t density,
+                                  uint64_t surface[2], size_t *place);
+
 /* The loading condition. `wholes`: weight, draft, KM, LCG, vertical moment, free surface, how it lies, 1 for a pass and 0
  * otherwise. `signed_numbers`: GM, transverse moment. `tangent` is left only where the vessel is heeled. A tank has free
  * surface where it is slack: above 0 and below 98 per cent of its capacity. */

@@ -40,6 +40,7 @@ use Rattle.demands.specs.RunningTally.{RunningTally}
 use Rattle.demands.specs.SecondCalculation.{SecondCalculation}
 use Rattle.demands.specs.TwoReadings.{TwoReadings}
 use Rattle.demands.proofs.Answering.{sheet-answers, reader-answers, writer-answers, rows-answer, display-answers, hopper-answers, condition-answers, totals-answer, step-answers, aboard-answers}
+use Rattle.demands.proofs.Hoppers.{in-order, beside-condition}
 use Rattle.demands.proofs.Longer.{longer-tables}
 
 demand-1 : Demand1
@@ -122,13 +123,15 @@ second-calculation = record {
 
 hopper-tanks : HopperTanks
 hopper-tanks = record {
+  refused-in-order = in-order;
   follows-the-formula = by-formula;
   nothing-without-width = without-width;
   numerator-never-negative = never-negative;
   middle-line-anywhere = shifted-alike;
   rectangles-are-exact = λ n p q h enough. rectangle-exact n enough p q h;
-  rectangles-are-answered = λ n p q made. rectangle-answered n p q made .1;
+  rectangles-are-answered = rectangle-answered;
   condition-keeps-rectangles = λ reading. refl;
+  never-less-than-the-condition = beside-condition;
 }
 
 pub demands-met : Demands

@@ -2,4 +2,5 @@
 pub mod Backs
 pub mod Answering
 pub mod Longer
+pub mod Hoppers
 pub mod DemandsMet

@@ -2,33 +2,37 @@
 --     found-told              the counts are right, and the surface is the definition's
 --     shifted-alike           with one width added to every p and taken from every q, the same inertia and moment
 --     rectangle-answered      a rectangle's
+--     beside-answered         its moment beside one that is rounded up once: never less, and at most 1 more
 --     by-formula              the formula, from which nothing is left without a width: `without-width`
 -- Assumes nothing.
-use mathlib.Core.Path.{_≡_, sym, ap, _∙_}
+use mathlib.Core.Path.{_≡_, refl, sym, ap, _∙_}
+use mathlib.Core.Bool.{true}
 use mathlib.Core.List.{List, map}
 use Prim.Native.Nat.{ℕ, _+_, _*_, _^_, _≤_, _<_}
 use native.Mathlib.Nat.{zero-mul}
 use native.Mathlib.Omega.{arith}
-use borrow.Author.Tests.{not-false}
+use borrow.Author.Tests.{not-false, ltb-false}
 use lib.IntN.{natAbs}
 use lib.ListN.{length, replicate, length-map, length-replicate}
 use Rattle.arithmetic.specs.Rounding.{roundedUp}
 use Rattle.arithmetic.proofs.Rounding.{up-by-none, up-zero, up-of}
-use Rattle.ranges.specs.Fields.{least}
+use Rattle.ranges.specs.Fields.{rangeOf, least, most}
 use Rattle.ranges.specs.Refusals.{outOfRange, wrongSize}
 use Rattle.ranges.proofs.Outcomes.{answer-same, not-refused}
-use Rattle.hoppers.specs.Hopper.{widthCount, outside, found, surfaceOf, MakesSurface}
+use Rattle.hoppers.specs.Hopper.{widthCount, countsFit, count, outside, found, surfaceOf, MakesSurface}
 use Rattle.hoppers.specs.Surface.{A, numerator, inertia, moment}
 use Rattle.hoppers.specs.declared.Answer.the-variants.{Found}
 use Rattle.hoppers.specs.declared.FreeSurface.{FreeSurface}
 use Rattle.hoppers.proofs.Inertia.{inertia-is}
-use Rattle.hoppers.proofs.Rectangle.{rectangle-inertia}
+use Rattle.hoppers.proofs.Rectangle.{rectangle-inertia, rectangle-beside}
 use Rattle.hoppers.proofs.Shifted.{inertia-shifted, moment-shifted}
-use Rattle.hoppers.proofs.Trying.{counts-told}
+use Rattle.hoppers.proofs.Trying.{counts-told, tried}
 
 pub record Told (port starboard : List ℕ) (h density : ℕ) (s : FreeSurface) : Type 0 where
   pub as-many : length port ≡ length starboard
   pub enough : least widthCount ≤ length port
+  pub interval-most : h ≤ most (rangeOf 26)
+  pub density-most : density ≤ most (rangeOf 17)
   pub inertia-is : s .inertia ≡ inertia port starboard h
   pub moment-is : s .moment ≡ moment port starboard h density
 
@@ -38,10 +42,14 @@ found-told {port} {starboard} {h} {density} e =
     let first = not-refused wrongSize 0 (sym (e .answer-is)) in
     let second = not-refused outOfRange (outside port starboard h density) (first .1) in
     let same : found port starboard h density ≡ _ = answer-same (second .1) in
-    let counts = counts-told (length port) (length starboard) (not-false _ (first .0)) in
+    let fit : countsFit (length port) (length starboard) ≡ true = not-false _ (first .0) in
+    let counts = counts-told (length port) (length starboard) fit in
+    let so = tried port starboard h density fit refl (ltb-false (outside port starboard h density) (count port starboard h density) (second .0)) in
     record {
       as-many = counts .0;
       enough = counts .1;
+      interval-most = so .0 .interval-most;
+      density-most = so .1;
       inertia-is = ap (λ (s : FreeSurface). s .inertia) (sym same);
       moment-is = ap (λ (s : FreeSurface). s .moment) (sym same);
     }
@@ -62,14 +70,17 @@ shifted-alike {port} {starboard′} {h} {density} k before after to-port to-star
       a .moment-is ∙ moment-shifted k port starboard′ as-many some to-port to-starboard h density ∙ sym (b .moment-is),
     )
 
-pub rectangle-answered :
-    (n p q : ℕ) {h density : ℕ} {s : FreeSurface}
-    → MakesSurface (replicate (n + 1) p) (replicate (n + 1) q) h density (Found s)
-    → (2 ≤ n) × (s .inertia ≡ roundedUp (n * (p + q) ^ 3) 12 * h)
-rectangle-answered n p q {h} e =
-    let t = found-told e in
-    let enough : 2 ≤ n = omega (arith, t .enough, length-replicate (n + 1) p) in
-    (enough, t .inertia-is ∙ rectangle-inertia n enough p q h)
+module _ (n p q : ℕ) {h density : ℕ} {s : FreeSurface} (made : MakesSurface (replicate (n + 1) p) (replicate (n + 1) q) h density (Found s)) where
+  enough : 2 ≤ n
+  enough = omega (arith, found-told made .enough, length-replicate (n + 1) p)
+
+  pub rectangle-answered : s .inertia ≡ roundedUp (n * (p + q) ^ 3) 12 * h
+  rectangle-answered = found-told made .inertia-is ∙ rectangle-inertia n enough p q h
+
+  pub beside-answered : let once = roundedUp (n * h * (p + q) ^ 3 * density) 12_000_000_000 in (once ≤ s .moment) × (s .moment ≤ once + 1)
+  beside-answered =
+      let t = found-told made in
+      rw (t .moment-is) (rectangle-beside n enough p q h density (t .interval-most) (t .density-most))
 
 module _ {port starboard : List ℕ} {h density : ℕ} {s : FreeSurface} (made : MakesSurface port starboard h density (Found s)) where
   pub by-formula : (s .inertia ≡ roundedUp (natAbs (numerator port starboard)) (288 * A port starboard) * h) × (s .moment ≡ roundedUp (s .inertia * density) 1_000_000_000)

@@ -1,8 +1,10 @@
 -- The inertia from the sums over the two sides.
---     lean-below                  3·M² is not above 4·A·I, so that the code's difference is the numerator
---     made                        rounded up and times h, it is the inertia
---     numerator-most              how large it is, and what it is made of
---     rounded-most, inertia-most  how large the inertia is
+--     inertia-is                            the inertia by its formula alone, which gives 0 where A is
+--     rounded-most, inertia-most            how large it is, before and after it is multiplied by h
+--     Summed                                the sums over the two sides, as the code has them
+--     area-most, cubes-most, first-most     how large A, I and 4·A·I are
+--     lean-below, lean-most                 3·M² is not above 4·A·I
+--     made, made-most                       the difference of the two, rounded up over 288·A and times h, is the inertia
 -- Assumes nothing.
 use mathlib.Core.Path.{_≡_, refl, sym, ap, ap₂, subst, _∙_}
 use mathlib.Core.Bool.{false}
@@ -86,51 +88,56 @@ module _ {port starboard : List ℕ} {h : ℕ} (surface : SurfaceInRange port st
   pub inertia-most : inertia port starboard h ≤ mostRounded * most (rangeOf 26)
   inertia-most = rw (← inertia-is port starboard h) (mul-le-mul rounded-most (surface .interval-most))
 
-  -- ---- what the code makes of the two sides' sums
-  module _ {p s : Side} (e : p ≡ sideOf port) (f : s ≡ sideOf starboard) where
-    abbrev area : ℕ
-    area = p .widths + s .widths
+-- ---- what the code makes of the two sides' sums
+pub record Summed (port starboard : List ℕ) (h : ℕ) (p s : Side) : Type 0 where
+  pub surface : SurfaceInRange port starboard h
+  pub port-is : p ≡ sideOf port
+  pub starboard-is : s ≡ sideOf starboard
 
-    abbrev cubes : ℕ
-    cubes = p .cubes + s .cubes
+module _ {port starboard : List ℕ} {h : ℕ} {p s : Side} (so : Summed port starboard h p s) where
+  abbrev area : ℕ
+  area = p .widths + s .widths
 
-    area-is : area ≡ A port starboard
-    area-is = ap₂ (λ p s. p .widths + s .widths) e f ∙ A-by-sides port starboard (surface .as-many)
+  abbrev cubes : ℕ
+  cubes = p .cubes + s .cubes
 
-    cubes-is : cubes ≡ I port starboard
-    cubes-is = ap₂ (λ p s. p .cubes + s .cubes) e f ∙ I-by-sides port starboard (surface .as-many)
+  area-is : area ≡ A port starboard
+  area-is = ap₂ (λ p s. p .widths + s .widths) (so .port-is) (so .starboard-is) ∙ A-by-sides port starboard (so .surface .as-many)
 
-    pub area-most : p .widths + s .widths ≤ 2 * mostWidths
-    area-most = rw area-is A-most
+  cubes-is : cubes ≡ I port starboard
+  cubes-is = ap₂ (λ p s. p .cubes + s .cubes) (so .port-is) (so .starboard-is) ∙ I-by-sides port starboard (so .surface .as-many)
 
-    pub cubes-most : p .cubes + s .cubes ≤ 2 * mostCubes
-    cubes-most = rw cubes-is I-most
+  pub area-most : p .widths + s .widths ≤ 2 * mostWidths
+  area-most = rw area-is (A-most (so .surface))
 
-    pub first-most : 4 * (p .widths + s .widths) * (p .cubes + s .cubes) ≤ 4 * (2 * mostWidths) * (2 * mostCubes)
-    first-most = mul-le-mul (mul-le-mul-left 4 area-most) cubes-most
+  pub cubes-most : p .cubes + s .cubes ≤ 2 * mostCubes
+  cubes-most = rw cubes-is (I-most (so .surface))
 
-    module _ {l : ℕ} (g : l ≡ natAbs (pos (s .squares) -ℤ pos (p .squares))) where
-      lean-is : l ≡ lean port starboard
-      lean-is =
-          g
-          ∙ ap₂ (λ (p s : Side). natAbs (pos (s .squares) -ℤ pos (p .squares))) e f
-          ∙ ap natAbs (M-by-sides port starboard (surface .as-many))
+  pub first-most : 4 * (p .widths + s .widths) * (p .cubes + s .cubes) ≤ 4 * (2 * mostWidths) * (2 * mostCubes)
+  first-most = mul-le-mul (mul-le-mul-left 4 area-most) cubes-most
 
-      pub lean-below : 3 * l * l ≤ 4 * (p .widths + s .widths) * (p .cubes + s .cubes)
-      lean-below = rw (lean-is, area-is, cubes-is) (below port starboard)
+  module _ {l : ℕ} (g : l ≡ natAbs (pos (s .squares) -ℤ pos (p .squares))) where
+    lean-is : l ≡ lean port starboard
+    lean-is =
+        g
+        ∙ ap₂ (λ (p s : Side). natAbs (pos (s .squares) -ℤ pos (p .squares))) (so .port-is) (so .starboard-is)
+        ∙ ap natAbs (M-by-sides port starboard (so .surface .as-many))
 
-      pub lean-most : 3 * l ≤ 4 * (2 * mostWidths) * (2 * mostCubes)
-      lean-most = omega (arith, lean-below, first-most, mul-assoc 3 l l, self-le-square l)
+    pub lean-below : 3 * l * l ≤ 4 * (p .widths + s .widths) * (p .cubes + s .cubes)
+    lean-below = rw (lean-is, area-is, cubes-is) (below port starboard)
 
-      rounded-is : roundedUp (4 * area * cubes - 3 * l * l) (288 * area) ≡ roundedUp (natAbs (numerator port starboard)) (288 * A port starboard)
-      rounded-is =
-          ap₂ roundedUp
-          (ap₂ (λ a c. 4 * a * c - 3 * l * l) area-is cubes-is ∙ ap (λ l. 4 * A port starboard * I port starboard - 3 * l * l) lean-is ∙ sym (numerator-is port starboard))
-          (ap (λ a. 288 * a) area-is)
+    pub lean-most : 3 * l ≤ 4 * (2 * mostWidths) * (2 * mostCubes)
+    lean-most = omega (arith, lean-below, first-most, mul-assoc 3 l l, self-le-square l)
 
-      module _ {r : ℕ} (m : r ≡ roundedUp (4 * (p .widths + s .widths) * (p .cubes + s .cubes) - 3 * l * l) (288 * (p .widths + s .widths))) where
-        pub made : r * h ≡ inertia port starboard h
-        made = ap (λ r. r * h) (m ∙ rounded-is) ∙ inertia-is port starboard h
+    rounded-is : roundedUp (4 * area * cubes - 3 * l * l) (288 * area) ≡ roundedUp (natAbs (numerator port starboard)) (288 * A port starboard)
+    rounded-is =
+        ap₂ roundedUp
+        (ap₂ (λ a c. 4 * a * c - 3 * l * l) area-is cubes-is ∙ ap (λ l. 4 * A port starboard * I port starboard - 3 * l * l) lean-is ∙ sym (numerator-is port starboard))
+        (ap (λ a. 288 * a) area-is)
 
-        pub made-most : r * h ≤ mostRounded * most (rangeOf 26)
-        made-most = rw made inertia-most
+    module _ {r : ℕ} (m : r ≡ roundedUp (4 * (p .widths + s .widths) * (p .cubes + s .cubes) - 3 * l * l) (288 * (p .widths + s .widths))) where
+      pub made : r * h ≡ inertia port starboard h
+      made = ap (λ r. r * h) (m ∙ rounded-is) ∙ inertia-is port starboard h
+
+      pub made-most : r * h ≤ mostRounded * most (rangeOf 26)
+      made-most = rw made (inertia-most (so .surface))

@@ -8,4 +8,5 @@ pub mod Rectangle
 pub mod Answered
 pub mod Figures
 pub mod Unique
+pub mod Order
 pub mod Numbered

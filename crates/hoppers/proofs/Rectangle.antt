@@ -2,25 +2,26 @@
 --     rectangle-A, rectangle-numerator     A is 24·n·b, and the numerator 576·n²·b⁴
 --     rectangle-exact                      (4·A·I − 3·M²)/(288·A), times h, is l·b³/12
 --     rectangle-inertia                    so the inertia is n·b³/12, rounded up, times h
+--     rectangle-beside                     the moment beside one that is rounded up once
 -- Assumes nothing.
 use mathlib.Core.Path.{_≡_, refl, sym, ap, ap₂, _∙_}
 use mathlib.Core.List.{List}
 use Prim.Native.Nat.{ℕ, _+_, _-_, _*_, _^_, _≤_, _<_}
-use native.Mathlib.Nat.{mul-pos, zero-mul, mul-zero}
+use native.Mathlib.Nat.{mul-pos, mul-zero, mul-assoc, mul-comm, mul-left-comm, mul-le-mul, mul-le-mul-right, add-mul, le-trans}
 use native.Mathlib.Omega.{arith}
-use lib.IntN.{ℤ, pos, natAbs, _+ℤ_, _-ℤ_, _*ℤ_, pow, *ℤ-comm}
+use lib.IntN.{ℤ, pos, natAbs, _+ℤ_, _-ℤ_, _*ℤ_, pow}
 use lib.ListN.{length, getD, replicate, length-replicate, getD-replicate}
 use Rattle.arithmetic.specs.Rounding.{roundedUp}
 use Rattle.arithmetic.proofs.Integer.{solveℤ, *ℤ-pos-one}
 use Rattle.arithmetic.proofs.Polynomial.{con, _:+_, _:*_, :-_, _:^_}
 use Rattle.arithmetic.proofs.Ring.{ring}
-use Rattle.arithmetic.proofs.Rounding.{up-scaled, up-by-none, up-of, up-zero}
+use Rattle.arithmetic.proofs.Rounding.{up-scaled, up-by-none, up-of, up-zero, up-least}
 use Rattle.arithmetic.proofs.Tests.{same-or-other}
 use Rattle.arithmetic.proofs.Whole.{pos-pow}
 use Rattle.simpson.specs.Curve.{curve, curveℤ}
 use Rattle.simpson.proofs.Curves.{curve-same, curve-times, curveℤ-same, curveℤ-times, pos-curve}
 use Rattle.simpson.proofs.Moments.{curve-of-one}
-use Rattle.hoppers.specs.Surface.{A, M, I, numerator, inertia}
+use Rattle.hoppers.specs.Surface.{A, M, I, numerator, inertia, moment}
 use Rattle.hoppers.proofs.Inertia.{inertia-is}
 
 module _ (n : ℕ) (enough : 2 ≤ n) where
@@ -113,3 +114,29 @@ module _ (n : ℕ) (enough : 2 ≤ n) where
 
     pub rectangle-inertia : (h : ℕ) → inertia (replicate (n + 1) p) (replicate (n + 1) q) h ≡ roundedUp (n * (p + q) ^ 3) 12 * h
     rectangle-inertia h = sym (inertia-is port starboard h) ∙ ap (λ r. r * h) rounded
+
+    -- beside l·b³·density/12,000,000,000 rounded up once, as a condition has it: never less, and at most 1 more
+    pub rectangle-beside :
+        (h density : ℕ) → h ≤ 1_000 → density ≤ 1_500
+        → let once = roundedUp (n * h * (p + q) ^ 3 * density) 12_000_000_000 in
+        (once ≤ moment (replicate (n + 1) p) (replicate (n + 1) q) h density) × (moment (replicate (n + 1) p) (replicate (n + 1) q) h density ≤ once + 1)
+    unfolding moment
+    rectangle-beside h density short light =
+        let c = n * b ^ 3 in
+        let r = roundedUp c 12 in
+        let k = h * density in
+        let once = roundedUp (n * h * b ^ 3 * density) 12_000_000_000 in
+        let twice = roundedUp (inertia port starboard h * density) 1_000_000_000 in
+        let rounded-c = up-of c 12 (omega arith) in
+        let first = up-of (n * h * b ^ 3 * density) 12_000_000_000 (omega arith) in
+        let second = up-of (inertia port starboard h * density) 1_000_000_000 (omega arith) in
+        let y-is : n * h * b ^ 3 * density ≡ c * k = simp (mul-assoc, mul-comm, mul-left-comm) in
+        let x-is : inertia port starboard h * density ≡ r * k = ap (λ i. i * density) (rectangle-inertia h) ∙ mul-assoc r h density in
+        let twelve : r * 12 * k ≡ 12 * (r * k) = ap (λ m. m * k) (mul-comm r 12) ∙ mul-assoc 12 r k in
+        let low = mul-le-mul-right k (rounded-c .low) in
+        let whole : r * 12 ≤ c + 11 = omega (arith, rounded-c .high) in
+        let high : r * 12 * k ≤ c * k + 11 * k = le-trans (mul-le-mul-right k whole) (omega (arith, add-mul c 11 k)) in
+        let most-k : k ≤ 1_000 * 1_500 = mul-le-mul short light in (
+          up-least first twice .1 (omega (arith, y-is, x-is, twelve, low, second .low)),
+          up-least second (once + 1) .1 (omega (arith, y-is, x-is, twelve, high, most-k, first .low)),
+        )

@@ -3,6 +3,7 @@
 --     sides-are                             y is what lies to starboard less what lies to port
 --     all-within, all-inside                no number of a table is outside: each is within its field's range; and the other way
 --     within-whole, whole-within            what that says of a whole number, and the other way
+--     not-within                            a whole number that is not so is outside
 --     within-size                           the same of the size of any number
 --     within-positive                       of a range from 0 on: each number is its own size
 --     wholes-in-range                       of a table of whole numbers of one range: none is above it, at any place
@@ -22,7 +23,7 @@ use lib.ListN.{length, getD, List·getD-map, length-map}
 use Rattle.arithmetic.specs.Signed.{isNegative}
 use Rattle.arithmetic.specs.Choice.{if_then_else_}
 use Rattle.arithmetic.proofs.Choice.{chosen}
-use Rattle.arithmetic.proofs.Tests.{both, never}
+use Rattle.arithmetic.proofs.Tests.{both, never, by-test}
 use Rattle.ranges.specs.Fields.{Range, _to_, ±_, within, least, most, rangeOf, particulars, halfBreadth}
 use Rattle.ranges.specs.Limits.{limits}
 use Rattle.ranges.specs.Outside.{outsideFrom, firstOutside, numbersOf, badParticular}
@@ -102,6 +103,9 @@ within-whole (± b) n e = (omega arith, leb-true n b e)
 pub whole-within : (a b n : ℕ) → (a ≤ n) × (n ≤ b) → within (a to b) (pos n) ≡ true
 unfolding within
 whole-within a b n h = rw (le-leb a n (h .0), le-leb n b (h .1))
+
+pub not-within : (a b n : ℕ) → ((a ≤ n) × (n ≤ b) → ⊥) → within (a to b) (pos n) ≡ false
+not-within a b n h = by-test (within (a to b) (pos n)) (λ t. absurd (h (within-whole (a to b) n t))) (λ e. e)
 
 pub within-size : (r : Range) (v : ℤ) → within r v ≡ true → (least r ≤ natAbs v) × (natAbs v ≤ most r)
 unfolding within

@@ -1,6 +1,7 @@
 -- The walk over a table for its first number out of range.
 --     outside-step, outside-here, outside-end     the walk at place i: on, ended, past the last number
 --     outside-le                                  the first number outside stands in the table, or after its end
+--     outside-first                               it is the one that is outside and has none before it
 --     then-within, then-after                     of a table that others follow: a number outside stands in it, or further on
 --     then-inside                                 where none of so many numbers is outside: none of its own, and none of those that follow
 --     field-next, field-after-lt                  the field after a field
@@ -11,8 +12,8 @@
 use mathlib.Core.Path.{_≡_, refl, sym, ap, _∙_}
 use mathlib.Core.Bool.{true, false}
 use mathlib.Core.List.{List, [], _∷_}
-use Prim.Native.Nat.{ℕ, suc, _+_, _%_, _≤_, _<_}
-use native.Mathlib.Nat.{mod-eq-of-lt, mod-self, mod-add-mod, zero-mod}
+use Prim.Native.Nat.{ℕ, zero, suc, _+_, _%_, _≤_, _<_}
+use native.Mathlib.Nat.{zero-add, add-zero, mod-eq-of-lt, mod-self, mod-add-mod, zero-mod}
 use native.Mathlib.Omega.{arith}
 use borrow.Author.Tests.{ltb-true, ltb-false, lt-ltb, le-ltb}
 use lib.Dec.{ltb}
@@ -47,6 +48,20 @@ outside-from-le section place (v ∷ rest) =
 pub outside-le : (section : List Range) (table : List ℤ) → firstOutside section table ≤ length table
 unfolding firstOutside
 outside-le section table = omega (arith, outside-from-le section 0 table)
+
+-- number i is outside, and none before it
+first-from : (section : List Range) (place : ℕ) (table : List ℤ) (i : ℕ) → i < length table → within (getD section ((place + i) % length section) (1 to 0)) (getD table i (pos 0)) ≡ false → ((j : ℕ) → j < i → within (getD section ((place + j) % length section) (1 to 0)) (getD table j (pos 0)) ≡ true) → outsideFrom section place table ≡ place + i
+unfolding outsideFrom
+first-from section place [] i h out before = absurd (omega arith)
+first-from section place (v ∷ rest) zero h out before = rw (rw add-zero at out) (simp chosen (sym (add-zero place)))
+first-from section place (v ∷ rest) (suc i) h out before =
+    let on : (j : ℕ) → place + suc j ≡ place + 1 + j = λ j. omega arith in
+    rw (rw add-zero at (before zero (omega arith)))
+    (simp chosen (first-from section (place + 1) rest i (omega arith) (rw (on i) at out) (λ j l. rw (on j) at (before (suc j) (omega arith))) ∙ sym (on i)))
+
+pub outside-first : (section : List Range) (table : List ℤ) (i : ℕ) → i < length table → within (getD section (i % length section) (1 to 0)) (getD table i (pos 0)) ≡ false → ((j : ℕ) → j < i → within (getD section (j % length section) (1 to 0)) (getD table j (pos 0)) ≡ true) → firstOutside section table ≡ i
+unfolding firstOutside
+outside-first section table i h out before = first-from section 0 table i h (rw zero-add out) (λ j l. rw zero-add (before j l)) ∙ zero-add i
 
 module _ (section : List Range) (table : List ℤ) (further : ℕ) where
   pub then-within : firstOutside section table < length table → outsideThen section table further ≡ firstOutside section table
