@@ -20,7 +20,7 @@ use Rattle.ranges.specs.Fields.{rangeOf, least, most}
 use Rattle.ranges.specs.Refusals.{outOfRange, wrongSize}
 use Rattle.ranges.proofs.Outcomes.{answer-same, not-refused}
 use Rattle.hoppers.specs.Hopper.{widthCount, countsFit, count, outside, found, surfaceOf, MakesSurface}
-use Rattle.hoppers.specs.Surface.{A, numerator, inertia, moment}
+use Rattle.hoppers.specs.Surface.{momentUnit, A, numerator, inertia, moment}
 use Rattle.hoppers.specs.declared.Answer.the-variants.{Found}
 use Rattle.hoppers.specs.declared.FreeSurface.{FreeSurface}
 use Rattle.hoppers.proofs.Inertia.{inertia-is}
@@ -77,19 +77,19 @@ module _ (n p q : ℕ) {h density : ℕ} {s : FreeSurface} (made : MakesSurface 
   pub rectangle-answered : s .inertia ≡ roundedUp (n * (p + q) ^ 3) 12 * h
   rectangle-answered = found-told made .inertia-is ∙ rectangle-inertia n enough p q h
 
-  pub beside-answered : let once = roundedUp (n * h * (p + q) ^ 3 * density) 12_000_000_000 in (once ≤ s .moment) × (s .moment ≤ once + 1)
+  pub beside-answered : let once = roundedUp (n * h * (p + q) ^ 3 * density) (12 * momentUnit) in (once ≤ s .moment) × (s .moment ≤ once + 1)
   beside-answered =
       let t = found-told made in
       rw (t .moment-is) (rectangle-beside n enough p q h density (t .interval-most) (t .density-most))
 
 module _ {port starboard : List ℕ} {h density : ℕ} {s : FreeSurface} (made : MakesSurface port starboard h density (Found s)) where
-  pub by-formula : (s .inertia ≡ roundedUp (natAbs (numerator port starboard)) (288 * A port starboard) * h) × (s .moment ≡ roundedUp (s .inertia * density) 1_000_000_000)
+  pub by-formula : (s .inertia ≡ roundedUp (natAbs (numerator port starboard)) (288 * A port starboard) * h) × (s .moment ≡ roundedUp (s .inertia * density) momentUnit)
   unfolding moment
   by-formula =
       let t = found-told made in
-      (t .inertia-is ∙ sym (inertia-is port starboard h), t .moment-is ∙ ap (λ i. roundedUp (i * density) 1_000_000_000) (sym (t .inertia-is)))
+      (t .inertia-is ∙ sym (inertia-is port starboard h), t .moment-is ∙ ap (λ i. roundedUp (i * density) momentUnit) (sym (t .inertia-is)))
 
   pub without-width : A port starboard ≡ 0 → (s .inertia ≡ 0) × (s .moment ≡ 0)
   without-width none =
       let inertia-none : s .inertia ≡ 0 = by-formula .0 ∙ ap (λ a. roundedUp (natAbs (numerator port starboard)) (288 * a) * h) none ∙ ap (λ r. r * h) (up-by-none _) ∙ zero-mul h in
-      (inertia-none, by-formula .1 ∙ ap (λ i. roundedUp (i * density) 1_000_000_000) inertia-none ∙ ap (λ i. roundedUp i 1_000_000_000) (zero-mul density) ∙ up-zero (up-of 0 1_000_000_000 (omega arith)))
+      (inertia-none, by-formula .1 ∙ ap (λ i. roundedUp (i * density) momentUnit) inertia-none ∙ ap (λ i. roundedUp i momentUnit) (zero-mul density) ∙ up-zero (up-of 0 momentUnit (omega arith)))

@@ -21,7 +21,7 @@ use Rattle.arithmetic.proofs.Whole.{pos-pow}
 use Rattle.simpson.specs.Curve.{curve, curveℤ}
 use Rattle.simpson.proofs.Curves.{curve-same, curve-times, curveℤ-same, curveℤ-times, pos-curve}
 use Rattle.simpson.proofs.Moments.{curve-of-one}
-use Rattle.hoppers.specs.Surface.{A, M, I, numerator, inertia, moment}
+use Rattle.hoppers.specs.Surface.{momentUnit, A, M, I, numerator, inertia, moment}
 use Rattle.hoppers.proofs.Inertia.{inertia-is}
 
 module _ (n : ℕ) (enough : 2 ≤ n) where
@@ -118,18 +118,18 @@ module _ (n : ℕ) (enough : 2 ≤ n) where
     -- beside l·b³·density/12,000,000,000 rounded up once, as a condition has it: never less, and at most 1 more
     pub rectangle-beside :
         (h density : ℕ) → h ≤ 1_000 → density ≤ 1_500
-        → let once = roundedUp (n * h * (p + q) ^ 3 * density) 12_000_000_000 in
+        → let once = roundedUp (n * h * (p + q) ^ 3 * density) (12 * momentUnit) in
         (once ≤ moment (replicate (n + 1) p) (replicate (n + 1) q) h density) × (moment (replicate (n + 1) p) (replicate (n + 1) q) h density ≤ once + 1)
     unfolding moment
     rectangle-beside h density short light =
         let c = n * b ^ 3 in
         let r = roundedUp c 12 in
         let k = h * density in
-        let once = roundedUp (n * h * b ^ 3 * density) 12_000_000_000 in
-        let twice = roundedUp (inertia port starboard h * density) 1_000_000_000 in
+        let once = roundedUp (n * h * b ^ 3 * density) (12 * momentUnit) in
+        let twice = roundedUp (inertia port starboard h * density) momentUnit in
         let rounded-c = up-of c 12 (omega arith) in
-        let first = up-of (n * h * b ^ 3 * density) 12_000_000_000 (omega arith) in
-        let second = up-of (inertia port starboard h * density) 1_000_000_000 (omega arith) in
+        let first = up-of (n * h * b ^ 3 * density) (12 * momentUnit) (omega arith) in
+        let second = up-of (inertia port starboard h * density) momentUnit (omega arith) in
         let y-is : n * h * b ^ 3 * density ≡ c * k = simp (mul-assoc, mul-comm, mul-left-comm) in
         let x-is : inertia port starboard h * density ≡ r * k = ap (λ i. i * density) (rectangle-inertia h) ∙ mul-assoc r h density in
         let twelve : r * 12 * k ≡ 12 * (r * k) = ap (λ m. m * k) (mul-comm r 12) ∙ mul-assoc 12 r k in

@@ -14,7 +14,7 @@ use Rattle.arithmetic.proofs.Polynomial.{con, _:+_, _:*_, :-_, _:^_}
 use Rattle.arithmetic.proofs.Whole.{pos-injective, pos-pow}
 use Rattle.simpson.specs.Curve.{curve, curveℤ}
 use Rattle.simpson.proofs.Curves.{curve-same, curveℤ-same, curveℤ-plus, curveℤ-times, pos-curve}
-use Rattle.hoppers.specs.Surface.{A, M, I, numerator, inertia, moment}
+use Rattle.hoppers.specs.Surface.{momentUnit, A, M, I, numerator, inertia, moment}
 use Rattle.hoppers.proofs.Inertia.{inertia-is}
 
 -- ---- one ordinate: p and q′ + k before, p + k and q′ after
@@ -132,4 +132,4 @@ module _
 
     pub moment-shifted : (h density : ℕ) → moment port′ starboard′ h density ≡ moment port starboard h density
     unfolding moment
-    moment-shifted h density = ap (λ i. roundedUp (i * density) 1_000_000_000) (inertia-shifted h)
+    moment-shifted h density = ap (λ i. roundedUp (i * density) momentUnit) (inertia-shifted h)

@@ -8,7 +8,7 @@
 -- Assumes nothing.
 use mathlib.Core.Path.{_≡_, refl, sym, ap, ap₂, _∙_}
 use mathlib.Core.Bool.{Bool, true, false, not, _&&_}
-use mathlib.Core.List.{List, [], _∷_, _++_, map}
+use mathlib.Core.List.{List, [], _∷_, map}
 use Prim.Native.Nat.{ℕ, _+_, _*_, _≤_, _<_}
 use native.Mathlib.Nat.{add-assoc, add-zero}
 use native.Mathlib.Omega.{arith}
@@ -27,7 +27,7 @@ use Rattle.ranges.proofs.Facts.{all-within, within-whole, wholes-in-range}
 use Rattle.ranges.proofs.Outside.{then-within, then-after, then-inside}
 use Rattle.hoppers.specs.Hopper.{widthCount, countsFit, count, outside, found, surfaceOf}
 use Rattle.hoppers.specs.Private.Side.{SurfaceInRange}
-use Rattle.hoppers.specs.Surface.{inertia, moment}
+use Rattle.hoppers.specs.Surface.{momentUnit, inertia, moment}
 
 -- ---- the counts
 module _ (port starboard : ℕ) where
@@ -62,7 +62,7 @@ module _ (r s : Range) (v w : ℕ) where
 
 module _ (port starboard : List ℕ) (h density : ℕ) where
   abbrev two : ℕ
-  two = firstOutside (hopperInterval ++ (liquidDensity ∷ [])) (map pos (h ∷ density ∷ []))
+  two = firstOutside (hopperInterval ∷ liquidDensity ∷ []) (map pos (h ∷ density ∷ []))
 
   -- the first number outside, to either side
   module _ {r : ℕ} (e : r ≡ firstOutside hopperWidth (map pos port)) where
@@ -106,10 +106,10 @@ module _ (port starboard : List ℕ) (h density : ℕ) where
       (omega (arith, first .0, length-map port pos), omega (arith, second .0, length-map starboard pos), second .1)
 
   -- ---- the three outcomes, and the surface from an inertia and a moment that were made of it
-  pub made-found : {i m : ℕ} → i ≡ inertia port starboard h → m ≡ roundedUp (i * density) 1_000_000_000 → answered (record { inertia = i; moment = m }) ≡ answered (found port starboard h density)
+  pub made-found : {i m : ℕ} → i ≡ inertia port starboard h → m ≡ roundedUp (i * density) momentUnit → answered (record { inertia = i; moment = m }) ≡ answered (found port starboard h density)
   unfolding moment
   made-found e f =
-      ap₂ (λ i m. answered (record { inertia = i; moment = m })) e (f ∙ ap (λ i. roundedUp (i * density) 1_000_000_000) e)
+      ap₂ (λ i m. answered (record { inertia = i; moment = m })) e (f ∙ ap (λ i. roundedUp (i * density) momentUnit) e)
 
   pub refused-size : countsFit (length port) (length starboard) ≡ false → refused wrongSize 0 ≡ surfaceOf port starboard h density
   unfolding surfaceOf
@@ -129,7 +129,7 @@ module _ (port starboard : List ℕ) (h density : ℕ) where
     tried l =
         let counts = counts-told (length port) (length starboard) fit in
         let ranges = inside (omega (arith, e)) in
-        let at = all-within (hopperInterval ++ (liquidDensity ∷ [])) (map pos (h ∷ density ∷ [])) (ranges .2) in (
+        let at = all-within (hopperInterval ∷ liquidDensity ∷ []) (map pos (h ∷ density ∷ [])) (ranges .2) in (
           record {
             as-many = counts .0;
             to-port = record { count-least = counts .1; count-most = counts .2; none-wider = wholes-in-range (rangeOf 25) port (ranges .0) };

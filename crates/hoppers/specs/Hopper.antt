@@ -2,7 +2,7 @@
 use Prim.Native.Nat.{ℕ, _+_}
 use mathlib.Core.Path.{_≡_}
 use mathlib.Core.Bool.{Bool, not, _&&_}
-use mathlib.Core.List.{List, [], _∷_, _++_, map}
+use mathlib.Core.List.{List, [], _∷_, map}
 use lib.Dec.{eqb, ltb}
 use lib.IntN.{pos}
 use lib.ListN.{length}
@@ -36,7 +36,7 @@ module _ (port starboard : List ℕ) (h density : ℕ) where
   outside =
       outsideThen hopperWidth (map pos port)
       (outsideThen hopperWidth (map pos starboard)
-      (firstOutside (hopperInterval ++ (liquidDensity ∷ [])) (map pos (h ∷ density ∷ []))))
+      (firstOutside (hopperInterval ∷ liquidDensity ∷ []) (map pos (h ∷ density ∷ []))))
 
   abbrev pub found : FreeSurface
   found = record { inertia = inertia port starboard h; moment = moment port starboard h density }

@@ -8,6 +8,10 @@ use Rattle.arithmetic.specs.Choice.{if_then_else_}
 use Rattle.arithmetic.specs.Rounding.{roundedUp}
 use Rattle.simpson.specs.Curve.{curve, curveℤ}
 
+-- so many mm⁴ · kg/m³ are one kg·mm
+abbrev pub momentUnit : ℕ
+momentUnit = 1_000_000_000
+
 module _ (port starboard : List ℕ) where
   -- one interval fewer than widths to a side
   abbrev pub intervals : ℕ
@@ -39,4 +43,4 @@ module _ (port starboard : List ℕ) where
 
   -- "the moment is that times liquid density / 1,000,000,000, rounded up"
   unfoldable pub moment : ℕ → ℕ → ℕ
-  moment h density = roundedUp (inertia h * density) 1_000_000_000
+  moment h density = roundedUp (inertia h * density) momentUnit

@@ -79,13 +79,13 @@ rowRanges =
 abbrev pub hopperWidth : List Range
 hopperWidth = 0 to 1_500 ∷ []
 
-abbrev pub hopperInterval : List Range
-hopperInterval = 50 to 1_000 ∷ []
+abbrev pub hopperInterval : Range
+hopperInterval = 50 to 1_000
 
 -- all fields by number: those of the file in its order, 0..4 particulars, 5 a half-breadth, 6..9 an item, 10..17 a tank; then 18..24 a row;
 -- 25 a width and 26 the interval of a hopper
 abbrev pub fields : List Range
-fields = particulars ++ halfBreadth ++ item ++ tank ++ rowRanges ++ hopperWidth ++ hopperInterval
+fields = particulars ++ halfBreadth ++ item ++ tank ++ rowRanges ++ hopperWidth ++ (hopperInterval ∷ [])
 
 -- no number is in the range of a field that there is not
 abbrev pub rangeOf : ℕ → Range
