@@ -6,16 +6,13 @@
 --     lean-below, lean-most                 3·M² is not above 4·A·I
 --     made, made-most                       the difference of the two, rounded up over 288·A and times h, is the inertia
 -- Assumes nothing.
-use mathlib.Core.Path.{_≡_, refl, sym, ap, ap₂, subst, _∙_}
-use mathlib.Core.Bool.{false}
+use mathlib.Core.Path.{_≡_, refl, sym, ap, ap₂, _∙_}
 use mathlib.Core.List.{List}
 use Prim.Native.Nat.{ℕ, zero, suc, _+_, _-_, _*_, _≤_}
-use native.Mathlib.Nat.{mul-assoc, mul-comm, zero-mul, mul-le-mul, mul-le-mul-left, le-trans, suc-mul}
+use native.Mathlib.Nat.{mul-assoc, zero-mul, mul-le-mul, mul-le-mul-left, suc-mul}
 use native.Mathlib.Omega.{arith}
 use borrow.Author.Tests.{eq-eqb, ne-eqb}
-use lib.Dec.{eqb}
 use lib.IntN.{ℤ, pos, negsuc, natAbs, _-ℤ_, _*ℤ_, pow}
-use lib.ListN.{length}
 use Rattle.arithmetic.specs.Rounding.{roundedUp}
 use Rattle.arithmetic.specs.Signed.{isNegative}
 use Rattle.arithmetic.proofs.Choice.{chosen}

@@ -3,9 +3,9 @@
 --     port-refused, starboard-refused, interval-refused, density-refused    the first number out of its range
 --     else-found                                                            where there is none
 -- Assumes nothing.
-use mathlib.Core.Path.{_≡_, refl, sym, ap, _∙_}
-use mathlib.Core.Bool.{true, false}
-use mathlib.Core.List.{List, [], _∷_, map}
+use mathlib.Core.Path.{_≡_, sym, _∙_}
+use mathlib.Core.Bool.{true}
+use mathlib.Core.List.{List, map}
 use Prim.Native.Nat.{ℕ, _+_, _≤_, _<_}
 use native.Mathlib.Nat.{mod-one}
 use native.Mathlib.Omega.{arith}
@@ -13,12 +13,12 @@ use borrow.Author.Tests.{eq-eqb}
 use lib.IntN.{pos}
 use lib.ListN.{length, getD, length-map, List·getD-map}
 use Rattle.arithmetic.proofs.Tests.{by-test}
-use Rattle.ranges.specs.Fields.{within, rangeOf, hopperWidth}
-use Rattle.ranges.specs.Outcome.{answered, refused}
+use Rattle.ranges.specs.Fields.{hopperWidth}
+use Rattle.ranges.specs.Outcome.{refused}
 use Rattle.ranges.specs.Outside.{firstOutside}
 use Rattle.ranges.proofs.Facts.{all-inside, whole-within, not-within}
 use Rattle.ranges.proofs.Outside.{outside-first}
-use Rattle.hoppers.specs.Hopper.{countsFit, found, surfaceOf, paper, MakesSurface}
+use Rattle.hoppers.specs.Hopper.{countsFit, found, surfaceOf, MakesSurface}
 use Rattle.hoppers.specs.declared.Answer.{Answer}
 use Rattle.hoppers.specs.declared.Answer.the-variants.{Found, Refused}
 use Rattle.hoppers.specs.declared.FreeSurface.{FreeSurface}

@@ -6,12 +6,12 @@ use mathlib.Core.Path.{_≡_, refl, sym, ap, ap₂, _∙_}
 use mathlib.Core.List.{List, [], _∷_, map}
 use Prim.Native.Nat.{ℕ, zero, suc, _+_, _-_, _*_, _^_, _≤_, _<_}
 use native.Mathlib.Omega.{arith}
-use lib.IntN.{ℤ, pos, negsuc, negℤ, natAbs, _+ℤ_, _-ℤ_, _*ℤ_, pow}
+use lib.IntN.{ℤ, pos, negℤ, natAbs, _+ℤ_, _-ℤ_, _*ℤ_, pow}
 use lib.ListN.{length, getD, length-map}
 use Rattle.arithmetic.specs.Rounding.{roundedUp}
 use Rattle.arithmetic.proofs.Integer.{solveℤ}
 use Rattle.arithmetic.proofs.Polynomial.{con, _:+_, _:*_, :-_, _:^_}
-use Rattle.arithmetic.proofs.Whole.{pos-injective, pos-pow}
+use Rattle.arithmetic.proofs.Whole.{pos-pow}
 use Rattle.simpson.specs.Curve.{curve, curveℤ}
 use Rattle.simpson.proofs.Curves.{curve-same, curveℤ-same, curveℤ-plus, curveℤ-times, pos-curve}
 use Rattle.hoppers.specs.Surface.{momentUnit, A, M, I, numerator, inertia, moment}

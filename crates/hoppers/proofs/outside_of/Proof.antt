@@ -1,5 +1,5 @@
 -- Each number is tried in its turn, and its position is what stands before it. Assumes nothing.
-use mathlib.Core.Path.{_≡_, sym, _∙_}
+use mathlib.Core.Path.{sym, _∙_}
 use borrow.Author.Needs.{needs}
 use borrow.Author.Tests.{not-true, not-false}
 use Rattle.hoppers.proofs.Trying.{port-outside, starboard-outside, interval-outside, density-outside, none-outside}

@@ -1,9 +1,9 @@
 -- The sums are those of the widths passed, and never more than the whole, which is small. Assumes nothing.
 use Prim.Native.Nat.{_+_, _-_, _^_, _≤_}
-use mathlib.Core.Path.{_≡_, refl, sym, ap, _∙_}
+use mathlib.Core.Path.{refl, sym}
 use native.Mathlib.Omega.{arith}
 use borrow.Author.Needs.{needs}
-use lib.ListN.{length, getD}
+use lib.ListN.{getD}
 use Rattle.arithmetic.proofs.Ring.{pow2, pow3}
 use Rattle.ranges.specs.Fields.{rangeOf, most}
 use Rattle.simpson.proofs.Sweep.{Swept, swept-none, swept-more, swept-all}
