@@ -2,7 +2,7 @@
 
 #[cfg(linked)]
 use crate::calls;
-use crate::calls::{Condition, Engine, Reading, Refusal, Summary, Tally};
+use crate::calls::{Condition, Engine, Reading, Refusal, Summary, Surface, Tally};
 use crate::peer;
 
 type Report = fn(Reading, &[u8], &mut [u8]) -> Result<usize, Refusal>;
@@ -15,6 +15,7 @@ type Load = fn(&mut Tally, usize, &[i64; 4]) -> Result<(), Refusal>;
 type Discharge = fn(&mut Tally, usize) -> Result<(), Refusal>;
 type Shift = fn(&mut Tally, usize, &[i64; 3]) -> Result<(), Refusal>;
 type AnswerAboard = fn(&Tally, &[i64], &[u64]) -> Result<Condition, Refusal>;
+type HopperSurface = fn(&[u64], &[u64], u64, u64) -> Result<Surface, Refusal>;
 
 /// One calculation's calls. They are called through pointers, so that neither is drawn into the loop that times it.
 pub struct Calculation {
@@ -29,6 +30,7 @@ pub struct Calculation {
     pub discharge: Discharge,
     pub shift: Shift,
     pub condition_aboard: AnswerAboard,
+    pub hopper_surface: HopperSurface,
 }
 
 pub const PEER: Calculation = Calculation {
@@ -44,6 +46,7 @@ pub const PEER: Calculation = Calculation {
     discharge: peer::discharge,
     shift: peer::shift,
     condition_aboard: peer::condition_aboard,
+    hopper_surface: peer::hopper_surface,
 };
 
 #[cfg(linked)]
@@ -59,6 +62,7 @@ pub const LIBRARY: Calculation = Calculation {
     discharge: calls::discharge,
     shift: calls::shift,
     condition_aboard: calls::condition_aboard,
+    hopper_surface: calls::hopper_surface,
 };
 
 /// What is to be tested: the own calculation, and the library's where it is linked.

@@ -1,4 +1,4 @@
-//! Rugulosca for Rust: the thirteen calls of `include/rugulosca.h` over slices, with a refusal as the error.
+//! Rugulosca for Rust: the fourteen calls of `include/rugulosca.h` over slices, with a refusal as the error.
 //!
 //! This file stands alone: a program that links `librugulosca.a` can take it as it is. Nothing is allocated or kept,
 //! and no call has a condition on its numbers, lengths or bytes.
@@ -82,6 +82,13 @@ pub struct Tally {
 impl Tally {
     /// Nothing aboard.
     pub const EMPTY: Tally = Tally { slots: [0; 160], totals: [0; 3], transverse: 0 };
+}
+
+/// The free surface of a hopper tank: its inertia about its own centre in mm⁴, and its moment in kg·mm.
+#[derive(Clone, Copy, Debug, PartialEq, Eq)]
+pub struct Surface {
+    pub inertia: u64,
+    pub moment: u64,
 }
 
 /// The header's declarations, for those who want the numbers as C sees them.
@@ -261,6 +268,17 @@ pub mod raw {
             tangent: *mut f64,
             place: *mut usize,
         ) -> u64;
+
+        pub fn rugulosca_hopper_surface(
+            port: *const u64,
+            port_length: usize,
+            starboard: *const u64,
+            starboard_length: usize,
+            interval: u64,
+            density: u64,
+            surface: *mut [u64; 2],
+            place: *mut usize,
+        ) -> u64;
     }
 }
 
@@ -419,6 +437,26 @@ pub fn condition_aboard(tally: &Tally, tanks: &[i64], rows: &[u64]) -> Result<Co
         )
     };
     answer(number, place, condition_of(wholes, signed_numbers, tangent))
+}
+
+/// The free surface of a hopper tank from its widths to port and to starboard, at equal intervals.
+pub fn hopper_surface(port: &[u64], starboard: &[u64], interval: u64, density: u64) -> Result<Surface, Refusal> {
+    let (mut surface, mut place) = ([0; 2], 0);
+    // SAFETY: as in `report`.
+    let number = unsafe {
+        raw::rugulosca_hopper_surface(
+            port.as_ptr(),
+            port.len(),
+            starboard.as_ptr(),
+            starboard.len(),
+            interval,
+            density,
+            &mut surface,
+            &mut place,
+        )
+    };
+    let [inertia, moment] = surface;
+    answer(number, place, Surface { inertia, moment })
 }
 
 /// The answer where the number is 0, and the refusal otherwise.

@@ -11,6 +11,7 @@ mod calls;
 mod compare;
 #[cfg(linked)]
 mod generate;
+mod hopper;
 #[cfg(linked)]
 mod measure;
 mod peer;
@@ -26,7 +27,7 @@ use std::process::ExitCode;
 const USAGE: &str = "usage: outside compare SEED CASES | replay SEED CASE | vectors FOLDER | measure
        outside file FILE | repeat library|peer CALL FILE TIMES
        FILE: smallest|sample|forty|largest
-       CALL: read|rows|sections|condition|report|write|load|discharge|aboard";
+       CALL: read|rows|sections|condition|report|write|load|discharge|aboard|hopper";
 
 fn main() -> ExitCode {
     let arguments: Vec<String> = env::args().skip(1).collect();

@@ -7,10 +7,11 @@
 pub mod condition;
 mod display;
 mod history;
+pub mod hopper;
 mod pen;
 pub mod ranges;
 mod reader;
-mod rows;
+pub mod rows;
 mod sheet;
 pub mod tally;
 mod writer;
@@ -19,10 +20,13 @@ mod writer;
 mod trial_figures;
 #[cfg(test)]
 mod trial_steps;
+#[cfg(test)]
+mod trial_surfaces;
 
 pub use condition::condition;
 pub use display::display;
 pub use history::History;
+pub use hopper::hopper_surface;
 pub use reader::read;
 pub use rows::rows;
 pub use sheet::report;
@@ -59,6 +63,7 @@ mod tables {
     pub const ITEMS: usize = 1;
     pub const TANKS: usize = 2;
     pub const ROWS: usize = 3;
+    pub const WIDTHS: usize = 0;
 }
 
 /// Refuses with this number at this place.

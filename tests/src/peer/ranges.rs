@@ -29,6 +29,7 @@ impl Range {
 const X: Range = range(0, 100_000);
 const Y: Range = range(-10_000, 10_000);
 const Z: Range = range(0, 30_000);
+pub const LIQUID_DENSITY: Range = range(1, 1_500);
 
 /// Intervals of length and of draft, mm between stations and between waterlines, water density.
 pub const PARTICULARS: [Range; 5] = [range(2, 80), range(3, 20), range(50, 2_500), range(10, 500), range(900, 1_100)];
@@ -40,7 +41,7 @@ pub const HALF_BREADTH: Range = range(0, 8_000);
 pub const ITEM: [Range; 4] = [range(0, 300_000), X, Y, Z];
 /// Contents, capacity, x, y, z, length, breadth, liquid density.
 pub const TANK: [Range; 8] =
-    [range(0, 400_000), range(1, 400_000), X, Y, Z, range(1, 10_000), range(1, 8_000), range(1, 1_500)];
+    [range(0, 400_000), range(1, 400_000), X, Y, Z, range(1, 10_000), range(1, 8_000), LIQUID_DENSITY];
 /// Draft, displacement, LCB, KB, BM, KM, waterplane area.
 pub const ROW: [Range; 7] = [
     range(20, 10_000),
@@ -52,11 +53,18 @@ pub const ROW: [Range; 7] = [
     range(0, 1_600_000_000),
 ];
 
+/// A width of a hopper tank's surface, to port or to starboard, and the interval between one width and the next.
+pub const WIDTH: Range = range(0, 1_500);
+pub const WIDTH_INTERVAL: Range = range(50, 1_000);
+
 pub const MOST_ITEMS: usize = 32;
 pub const MOST_TANKS: usize = 16;
 pub const MOST_INTERVALS: usize = PARTICULARS[INTERVALS].greatest as usize;
 pub const MOST_WATERLINES: usize = PARTICULARS[1].greatest as usize + 1;
 pub const MOST_ROWS: usize = MOST_WATERLINES - 2;
+/// Widths to either side of a hopper tank's surface, at 2 to 10 intervals.
+pub const FEWEST_WIDTHS: usize = 3;
+pub const MOST_WIDTHS: usize = 11;
 
 /// Bytes that a file may have.
 pub const LONGEST_FILE: usize = 32_768;
