@@ -1,10 +1,12 @@
 //! Answers worked out elsewhere, byte for byte: each `.txt` file's sheet must be its `.out` file, that of a
-//! `straight-line-` `.txt` file by the straight line, and so must the totals after each step of a `tally-` `.in` file.
+//! `straight-line-` `.txt` file by the straight line, and so must the totals after each step of a `tally-` `.in` file, and
+//! the free surface of a `hopper-` `.in` file.
 
+mod hoppers;
 mod steps;
 
 use crate::calculation::{Calculation, CALCULATIONS};
-use crate::calls::Reading;
+use crate::calls::{Reading, Refusal};
 use crate::peer::ranges::SHEET_ROOM;
 use std::fs;
 use std::io;
@@ -15,6 +17,7 @@ pub fn run(folder: &Path) -> io::Result<bool> {
     let sheets = inputs(folder, "", ".txt")?;
     let straight_line_sheets = inputs(folder, "straight-line-", ".txt")?;
     let tallies = inputs(folder, "tally-", ".in")?;
+    let hoppers = inputs(folder, "hopper-", ".in")?;
     let mut agree = true;
     for calculation in CALCULATIONS {
         let name = calculation.name;
@@ -22,6 +25,7 @@ pub fn run(folder: &Path) -> io::Result<bool> {
         agree &= all_agree(name, "sheets", &sheets, by(Reading::Lesser))?;
         agree &= all_agree(name, "straight-line sheets", &straight_line_sheets, by(Reading::StraightLine))?;
         agree &= all_agree(name, "tallies", &tallies, |input| steps::by_calculation(calculation, input))?;
+        agree &= all_agree(name, "hopper tanks", &hoppers, |input| hoppers::by_calculation(calculation, input))?;
     }
     agree &= all_agree("peer's list", "tallies", &tallies, steps::by_list)?;
     Ok(agree)
@@ -61,4 +65,9 @@ fn sheet(calculation: &Calculation, reading: Reading, text: &[u8]) -> Option<Vec
     let mut room = [0; SHEET_ROOM];
     let length = (calculation.report)(reading, text, &mut room).ok()?;
     Some(room[..length].to_vec())
+}
+
+/// A refusal as the answers have it.
+fn refusal_line(Refusal { number, place }: Refusal) -> String {
+    format!("E {number} {place}\n")
 }

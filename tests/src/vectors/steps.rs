@@ -1,6 +1,7 @@
 //! Steps of a tally as a text: how many, then a line each, "L slot kg x y z", "D slot" or "S slot x y z". The answer has a
 //! line a step: "A" and the totals after it, or "E" and the refusal.
 
+use super::refusal_line;
 use crate::calculation::Calculation;
 use crate::calls::{Refusal, Tally};
 use crate::peer::History;
@@ -25,7 +26,7 @@ fn answer(text: &[u8], mut take: impl FnMut(&Step) -> (Result<(), Refusal>, Tall
             (Ok(()), Tally { totals: [weight, longitudinal, vertical], transverse, .. }) => {
                 format!("A {weight} {longitudinal} {vertical} {transverse}\n")
             }
-            (Err(Refusal { number, place }), _) => format!("E {number} {place}\n"),
+            (Err(refusal), _) => refusal_line(refusal),
         };
     }
     Some(answer.into_bytes())
