@@ -2,6 +2,7 @@
 
 mod engines;
 mod history;
+mod hoppers;
 mod lengths;
 mod observation;
 mod outcomes;
@@ -47,6 +48,7 @@ pub fn replay(seed: u64, number: u64) -> bool {
         Case::Call(call) => {
             call.by_straight_line().iter().chain([call]).for_each(show);
             call.rows_by_both_engines().iter().flatten().for_each(show);
+            call.with_middle_line_moved().iter().flatten().for_each(show);
         }
         Case::History(steps) => {
             for (call, list) in history::calls(steps) {
@@ -68,8 +70,8 @@ fn show(call: &Call) {
     println!("peer: {:?}", before.by_calculation(&PEER, call));
 }
 
-/// Examines each call of a case; the steps of a history must also be the list's, the two readings of KM must fit, and
-/// both engines must make the same of a hull.
+/// Examines each call of a case; the steps of a history must also be the list's, the two readings of KM must fit, both
+/// engines must make the same of a hull, and a surface must be the same with its middle line moved.
 fn examine(case: &Case, wrapped: bool, outcomes: &mut Outcomes) -> Result<(), String> {
     match case {
         Case::Call(call) => {
@@ -82,6 +84,10 @@ fn examine(case: &Case, wrapped: bool, outcomes: &mut Outcomes) -> Result<(), St
                 let by_sections = examine_call(&sections, wrapped)?;
                 outcome.engines = engines::examine(&examine_call(&waterplanes, wrapped)?, &by_sections)?;
                 outcomes.add(&Outcome::of(&sections, &by_sections));
+            }
+            for (side, moved) in call.with_middle_line_moved().into_iter().flatten().enumerate() {
+                hoppers::same_surface(&library, &examine_call(&moved, wrapped)?)?;
+                outcome.middle_line[side] = moved != *call;
             }
             outcomes.add(&outcome);
         }

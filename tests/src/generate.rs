@@ -1,6 +1,7 @@
 //! Cases for the comparison, drawn from a seed: each case depends on the seed and its own number alone.
 
 mod edges;
+mod hoppers;
 mod hulls;
 mod layouts;
 mod loads;
@@ -12,7 +13,9 @@ mod texts;
 #[cfg(test)]
 mod trial_texts;
 
+use crate::calculation::PEER;
 use crate::calls::{Engine, Reading, Summary, Tally};
+use crate::hopper::Hopper;
 use crate::peer;
 use crate::peer::ranges::{half_breadth_count, HALF_BREADTH, ITEM, PARTICULARS, ROW, TANK};
 use crate::peer::ranges::{HALF_BREADTH_ROOM, ITEM_ROOM, ROW_ROOM, SHEET_ROOM, TANK_ROOM};
@@ -48,6 +51,7 @@ pub enum Call {
     Condition { reading: Reading, items: Vec<i64>, tanks: Vec<i64>, rows: Vec<u64> },
     Step { tally: Box<Tally>, step: Step },
     Aboard { tally: Box<Tally>, tanks: Vec<i64>, rows: Vec<u64> },
+    Surface { hopper: Hopper },
 }
 
 /// The numbers of an offset file.
@@ -82,7 +86,7 @@ impl FileNumbers {
 impl Case {
     pub fn generate(seed: u64, number: u64) -> Case {
         let random = &mut Random::for_case(seed, number);
-        Case::Call(match random.below(20) {
+        Case::Call(match random.below(22) {
             0..=4 => report(random),
             5..=7 => read(random),
             8..=9 => write(random),
@@ -91,6 +95,7 @@ impl Case {
             13..=15 => condition(random),
             16..=17 => step(random),
             18 => aboard(random),
+            19..=20 => surface(random),
             _ => return Case::History(tallies::history(random)),
         })
     }
@@ -117,6 +122,16 @@ impl Call {
             _ => return None,
         };
         Some(Engine::BOTH.map(|engine| Call::Rows { engine, particulars, half_breadths: half_breadths.clone(), room }))
+    }
+
+    /// The call's surface, where it is answered, with its middle line as far to port and as far to starboard as may be.
+    pub fn with_middle_line_moved(&self) -> Option<[Call; 2]> {
+        match self {
+            Call::Surface { hopper } if hopper.by(&PEER).is_ok() => {
+                Some(hopper.moves().map(|width| Call::Surface { hopper: hopper.moved(width) }))
+            }
+            _ => None,
+        }
     }
 }
 
@@ -307,4 +322,12 @@ fn aboard(random: &mut Random) -> Call {
         }
     }
     Call::Aboard { tally: Box::new(tally), tanks, rows }
+}
+
+fn surface(random: &mut Random) -> Call {
+    let mut hopper = hoppers::hopper(random);
+    for _ in 0..damages(random) {
+        hoppers::damage(random, &mut hopper);
+    }
+    Call::Surface { hopper }
 }

@@ -3,6 +3,7 @@
 use crate::calculation::Calculation;
 use crate::calls::{raw, Condition, Engine, Heel, Reading, Refusal, Tally};
 use crate::generate::{pattern, Call, FileNumbers};
+use crate::hopper::Hopper;
 use crate::peer::History;
 use crate::step::Step;
 
@@ -64,6 +65,7 @@ impl Observation {
             Call::Condition { reading, items, tanks, rows } => self.raw_condition(*reading, items, tanks, rows),
             Call::Step { step, .. } => self.raw_step(step),
             Call::Aboard { tally, tanks, rows } => self.raw_aboard(tally, tanks, rows),
+            Call::Surface { hopper } => self.raw_surface(hopper),
         };
         self
     }
@@ -189,6 +191,23 @@ impl Observation {
         })
     }
 
+    fn raw_surface(&mut self, hopper: &Hopper) -> u64 {
+        let Hopper { port, starboard, interval, density } = hopper;
+        let surface = self.values.first_chunk_mut::<2>().expect("two of eleven");
+        unsafe {
+            raw::rugulosca_hopper_surface(
+                port.as_ptr(),
+                port.len(),
+                starboard.as_ptr(),
+                starboard.len(),
+                *interval,
+                *density,
+                surface,
+                &mut self.place,
+            )
+        }
+    }
+
     /// Lends a condition's values to a call, and takes them back in the header's order.
     fn settle(&mut self, call: impl Fn(&mut [u64; 8], &mut [i64; 2], &mut f64, &mut usize) -> u64) -> u64 {
         let mut signed = [self.values[GM] as i64, self.values[TRANSVERSE_MOMENT] as i64];
@@ -236,6 +255,10 @@ impl Observation {
             Call::Aboard { tally, tanks, rows } => {
                 let answer = (calculation.condition_aboard)(tally, tanks, rows);
                 self.note(answer, note_condition);
+            }
+            Call::Surface { hopper } => {
+                let answer = hopper.by(calculation);
+                self.note(answer, |surface, values| values[..2].copy_from_slice(&[surface.inertia, surface.moment]));
             }
         }
         self

@@ -1,6 +1,7 @@
 //! Counts of outcomes by call, and what the papers let come out that never did.
 
 use super::engines::ENGINES;
+use super::hoppers::{refused_surface, surface, MIDDLE_LINES, REFUSED_SURFACES, SURFACES};
 use super::lengths::{lengths, LENGTHS, LENGTHS_BY_NUMBERS};
 use super::observation::Observation;
 use super::readings::{flotation, FLOTATIONS, READINGS};
@@ -9,15 +10,27 @@ use super::spellings::{in_text, in_token, IN_TEXTS, IN_TOKENS};
 use crate::calls::{Engine, Refusal, Tally};
 use crate::generate::Call;
 use crate::peer::condition::PRESSED_UP;
-use crate::peer::ranges::{ITEM, ITEM_PLACES, LONGEST_FILE, TANK, TANK_PLACES};
+use crate::peer::ranges::{ITEM, ITEM_PLACES, LONGEST_FILE, MOST_WIDTHS, TANK, TANK_PLACES};
 use crate::peer::tally::SLOT_NUMBERS;
 use crate::step::Step;
 use std::cmp::Ordering;
 use std::collections::BTreeSet;
 
 /// Sections are counted of every hull, whichever call it stands in.
-const CALLS: [&str; 11] =
-    ["report", "read", "write", "rows", "sections", "display", "condition", "load", "discharge", "shift", "aboard"];
+const CALLS: [&str; 12] = [
+    "report",
+    "read",
+    "write",
+    "rows",
+    "sections",
+    "display",
+    "condition",
+    "load",
+    "discharge",
+    "shift",
+    "aboard",
+    "hopper",
+];
 const REPORT: usize = 0;
 const READ: usize = 1;
 const WRITE: usize = 2;
@@ -39,10 +52,12 @@ const ALLOWED: [&[usize]; CALLS.len()] = [
     &[15, 17, 22],
     &[4, 15, 17, 22],
     &[4, 7, 10, 11, 12, 13, 22],
+    &[4, 7],
 ];
 const ROWS_ALLOWED: &[usize] = &[4, 7, 8, 9];
 /// Places that must be seen: of a file too long, of every table whose size a call may refuse, of the first item and tank,
-/// of every number of a step, and of the first slot, the last and the first beyond.
+/// of every number of a step, of the first slot, the last and the first beyond, and of the first number of a hopper tank
+/// and the last of the largest.
 const PLACES: [&[(usize, usize)]; CALLS.len()] = [
     &[(1, LONGEST_FILE), (13, TANK_PLACES)],
     &[(1, LONGEST_FILE), (7, 0), (7, 1), (7, 2)],
@@ -55,6 +70,7 @@ const PLACES: [&[(usize, usize)]; CALLS.len()] = [
     &[(15, 32), (17, 0), (17, 31), (22, 0)],
     &[(4, 1), (4, 2), (4, 3), (15, 32), (17, 0), (17, 31), (22, 0)],
     &[(4, TANK_PLACES), (7, 2), (7, 3), (13, TANK_PLACES), (22, 0)],
+    &[(4, 0), (4, 2 * MOST_WIDTHS + 1), (7, 0)],
 ];
 const ROWS_PLACES: &[(usize, usize)] = &[(7, 0), (7, 3)];
 /// By number; those without a name are no call's.
@@ -94,8 +110,9 @@ const STATES: [&str; 4] = ["empty", "full", "with another mark than 1", "with so
 
 /// What came out of one call: 0 or the refusal's number, how the vessel lies and where it floats where that was found,
 /// what the other reading of KM made of it, what both engines made of its hull, how long that is, how many of the
-/// condition's tanks are filled how, in which states the tally was that a step was answered on, and what editors left in
-/// the text that was read or in its token that is no number.
+/// condition's tanks are filled how, in which states the tally was that a step was answered on, what editors left in the
+/// text that was read or in its token that is no number, what a hopper tank's surface is like or is refused for, and to
+/// which sides its middle line was moved.
 pub struct Outcome {
     call: usize,
     refusal: usize,
@@ -109,6 +126,9 @@ pub struct Outcome {
     states: [bool; STATES.len()],
     in_text: [bool; IN_TEXTS.len()],
     in_token: [bool; IN_TOKENS.len()],
+    surface: [bool; SURFACES.len()],
+    refused_surface: [bool; REFUSED_SURFACES.len()],
+    pub middle_line: [bool; MIDDLE_LINES.len()],
 }
 
 impl Outcome {
@@ -126,6 +146,9 @@ impl Outcome {
             states: Default::default(),
             in_text: Default::default(),
             in_token: Default::default(),
+            surface: Default::default(),
+            refused_surface: Default::default(),
+            middle_line: Default::default(),
         };
         match Settled::of(call, seen) {
             Some(Ok(settled)) => {
@@ -143,8 +166,11 @@ impl Outcome {
                 }
                 Call::Step { tally, .. } => outcome.states = states(tally),
                 Call::Read { text, .. } => outcome.in_text = in_text(text),
+                Call::Surface { hopper } => outcome.surface = surface(hopper, seen),
                 _ => {}
             }
+        } else if let Call::Surface { hopper } = call {
+            outcome.refused_surface = refused_surface(hopper, seen);
         }
         if let (Call::Read { text, .. }, NO_NUMBER) = (call, outcome.refusal) {
             outcome.in_token = in_token(text, seen.place);
@@ -167,6 +193,7 @@ fn index(call: &Call) -> usize {
         Call::Step { step: Step::Discharge { .. }, .. } => 8,
         Call::Step { step: Step::Shift { .. }, .. } => 9,
         Call::Aboard { .. } => ABOARD,
+        Call::Surface { .. } => 11,
     }
 }
 
@@ -205,6 +232,9 @@ pub struct Outcomes {
     states: [u64; STATES.len()],
     in_texts: [u64; IN_TEXTS.len()],
     in_tokens: [u64; IN_TOKENS.len()],
+    surfaces: [u64; SURFACES.len()],
+    refused_surfaces: [u64; REFUSED_SURFACES.len()],
+    middle_lines: [u64; MIDDLE_LINES.len()],
 }
 
 impl Outcomes {
@@ -228,6 +258,9 @@ impl Outcomes {
         count(&mut self.states, outcome.states);
         count(&mut self.in_texts, outcome.in_text);
         count(&mut self.in_tokens, outcome.in_token);
+        count(&mut self.surfaces, outcome.surface);
+        count(&mut self.refused_surfaces, outcome.refused_surface);
+        count(&mut self.middle_lines, outcome.middle_line);
     }
 
     pub fn print(&self) {
@@ -243,6 +276,9 @@ impl Outcomes {
         println!("tallies of answered steps: {}", listed(&STATES, &self.states));
         println!("texts read with {}", listed(&IN_TEXTS, &self.in_texts));
         println!("tokens that are no number with {}", listed(&IN_TOKENS, &self.in_tokens));
+        println!("surfaces answered with {}", listed(&SURFACES, &self.surfaces));
+        println!("surfaces refused for {}", listed(&REFUSED_SURFACES, &self.refused_surfaces));
+        println!("surfaces with their middle line moved {}", listed(&MIDDLE_LINES, &self.middle_lines));
         for (call, name) in CALLS.iter().enumerate() {
             let seen = ALLOWED[call].iter().filter(|&&refusal| self.refusals[call][refusal] > 0).count();
             println!("{name}: refusals allowed {:?}, {seen} of {} seen", ALLOWED[call], ALLOWED[call].len());
@@ -286,6 +322,9 @@ impl Outcomes {
         missing.extend(never("tally", &STATES, &self.states));
         missing.extend(never("text read", &IN_TEXTS, &self.in_texts));
         missing.extend(never("token that is no number", &IN_TOKENS, &self.in_tokens));
+        missing.extend(never("surface answered", &SURFACES, &self.surfaces));
+        missing.extend(never("surface refused", &REFUSED_SURFACES, &self.refused_surfaces));
+        missing.extend(never("middle line moved", &MIDDLE_LINES, &self.middle_lines));
         missing.iter().for_each(|line| println!("NOT AS THE PAPER ALLOWS: {line}"));
         missing.is_empty()
     }

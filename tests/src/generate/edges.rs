@@ -9,6 +9,12 @@ const TWO_TO_THE_32: i64 = 1 << 32;
 const RECORDS: [usize; 8] =
     [1, MOST_TANKS, MOST_TANKS + 1, MOST_ROWS, MOST_ROWS + 1, MOST_ITEMS, MOST_ITEMS + 1, MOST_ITEMS + 2];
 
+/// A number at an end of the range or anywhere in it.
+pub fn end_or_any(random: &mut Random, range: Range) -> i64 {
+    let any = random.between(range.least, range.greatest);
+    random.pick(&[range.least, range.greatest, any, any, any, any])
+}
+
 /// A number at an end of the range, one beyond it, or far beyond; some agree with the old number in their low bits.
 pub fn edge(random: &mut Random, range: Range, number: i64) -> i64 {
     match random.below(10) {

@@ -1,5 +1,6 @@
 //! Hulls within the ranges of a file: ships, boxes, wedges, random lines, and those that rows refuse.
 
+use super::edges::end_or_any;
 use super::random::Random;
 use crate::peer::ranges::{Range, HALF_BREADTH, INTERVALS, LONGEST_HULL, PARTICULARS, STATION_SPACING};
 
@@ -58,7 +59,7 @@ pub fn hull(random: &mut Random) -> Hull {
     let [n, m] = intervals(random);
     let [_, _, _, d, density] = PARTICULARS;
     let s = station_spacings(n);
-    let mut particulars = [n, m, spacing(random, s), spacing(random, d), spacing(random, density)];
+    let mut particulars = [n, m, end_or_any(random, s), end_or_any(random, d), end_or_any(random, density)];
     let shape = if random.one_in(60) { Shape::Nothing } else { random.pick(&SHAPES) };
     let lines = Lines::of(random, shape, &mut particulars);
     let mut half_breadths = Vec::with_capacity(((n + 1) * (m + 1)) as usize);
@@ -101,12 +102,6 @@ pub fn stretch(random: &mut Random, particulars: &mut [u64; 5]) {
     let any = random.between(longest + 1, widest);
     particulars[INTERVALS] = n as u64;
     particulars[STATION_SPACING] = random.pick(&[longest, longest + 1, longest + 1, any, any, widest]) as u64;
-}
-
-/// A particular at an end of its range or anywhere in it.
-fn spacing(random: &mut Random, range: Range) -> i64 {
-    let any = random.between(range.least, range.greatest);
-    random.pick(&[range.least, range.greatest, any, any, any, any])
 }
 
 /// What gives a shape its numbers.

@@ -1,6 +1,6 @@
 //! Tallies and their steps: histories from an empty tally, tallies as an owner may hand them in, and unsound ones.
 
-use super::edges::edge;
+use super::edges::{edge, end_or_any};
 use super::random::Random;
 use crate::calculation::PEER;
 use crate::calls::Tally;
@@ -74,10 +74,7 @@ fn item(random: &mut Random) -> [i64; 4] {
     if random.one_in(16) {
         return [0; 4];
     }
-    let mut item = ITEM.map(|range| {
-        let any = random.between(range.least, range.greatest);
-        random.pick(&[range.least, range.greatest, any, any, any, any])
-    });
+    let mut item = ITEM.map(|range| end_or_any(random, range));
     if random.one_in(8) {
         for _ in 0..random.pick(&[1, 1, 2]) {
             let i = random.index(item.len());
