@@ -1,6 +1,7 @@
 /* The smallest program around the library: the sheet of the file on standard input, on standard output. Before it, on a
  * barge of the program's own, its rows by both engines, a tally, which is what a crane panel does for a lift, a load by
- * both readings of KM, what is refused, with its place, and the longest text that the writer writes. */
+ * both readings of KM, what is refused, with its place, the longest text that the writer writes, and the free surface of
+ * a hopper tank. */
 #include <assert.h>
 #include <stdio.h>
 #include <string.h>
@@ -135,6 +136,24 @@ static size_t longest_text(void) {
     return count;
 }
 
+/* A surface of 10 intervals of 500 mm, 1,200 mm wide all along and 1,000 mm of that to port: its inertia is that of a
+ * rectangle, 10·500·1,200³/12, wherever the middle line lies. A width that is too large is refused and leaves it. */
+static void hopper(void) {
+    uint64_t port[11];
+    uint64_t starboard[11];
+    uint64_t surface[2] = {0, 0};
+    size_t place = 0;
+    for (size_t i = 0; i < 11; i++) {
+        port[i] = 1000;
+        starboard[i] = 200;
+    }
+    uint64_t refusal = rugulosca_hopper_surface(port, 11, starboard, 11, 500, 1025, surface, &place);
+    assert(refusal == 0 && surface[0] == 720000000000 && surface[1] == 738000 && place == 0);
+    starboard[2] = 1501;
+    refusal = rugulosca_hopper_surface(port, 11, starboard, 11, 500, 1025, surface, &place);
+    assert(refusal == 4 && place == 11 + 2 && surface[0] == 720000000000 && surface[1] == 738000);
+}
+
 int main(void) {
     /* a byte more than a file may have, so that a longer one is refused */
     static uint8_t text[RUGULOSCA_LONGEST_FILE + 1];
@@ -149,6 +168,7 @@ int main(void) {
     assert(gm_by(rugulosca_condition_straight_line) == 735);
     refusals();
     assert(longest_text() == RUGULOSCA_LONGEST_TEXT);
+    hopper();
     read = fread(text, 1, sizeof text, stdin);
     /* room for the longest sheet is never too short, so this is never refused */
     rugulosca_report(text, read, sheet, sizeof sheet, &count, &place);

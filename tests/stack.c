@@ -2,7 +2,7 @@
  *
  * Counted from the caller's stack pointer at the call down to the deepest word that is written: the return address, the
  * call's own frame, and those of all that it calls. Arguments that C passes on the stack lie above, in the caller's
- * frame. Each call is made with several files and rooms, some of them refused, and the deepest counts. */
+ * frame. Each call is made with several files, rooms and intervals, some of them refused, and the deepest counts. */
 #include <assert.h>
 #include <stdio.h>
 #include <stdlib.h>
@@ -10,7 +10,7 @@
 
 #include "../include/rugulosca.h"
 
-enum { PAINTED_BYTES = 256 * 1024, LAST_SLOT = RUGULOSCA_SLOTS - 1, ITEM_WIDTH = 4 };
+enum { PAINTED_BYTES = 256 * 1024, LAST_SLOT = RUGULOSCA_SLOTS - 1, ITEM_WIDTH = 4, WIDTHS = 11 };
 
 /* What is lent. The reader fills the tables that are lent to the calls after it, and the rows' calls the rows. */
 static uint8_t text[RUGULOSCA_LONGEST_FILE + 1], room[RUGULOSCA_LONGEST_TEXT];
@@ -18,6 +18,11 @@ static size_t text_length, room_length, count, place;
 static uint64_t summary[7], half_breadths[RUGULOSCA_HALF_BREADTH_ROOM], rows[RUGULOSCA_ROW_ROOM], wholes[8];
 static int64_t items[RUGULOSCA_ITEM_ROOM], tanks[RUGULOSCA_TANK_ROOM], signed_numbers[2];
 static double figures[7], tangent;
+
+/* The largest hopper tank, its interval in range or not. */
+static const uint64_t port[WIDTHS] = {900, 1100, 1250, 1350, 1400, 1400, 1350, 1250, 1100, 900, 700};
+static const uint64_t starboard[WIDTHS] = {1500, 1500, 1500, 1500, 1500, 1500, 1500, 1500, 1500, 1500, 1500};
+static uint64_t interval, surface[2];
 
 /* A tally that waits for the last item, one that has it, and both as they were before a step. */
 static struct tally {
@@ -58,6 +63,7 @@ CALL(load, waiting.slots, waiting.totals, &waiting.transverse, LAST_SLOT, items 
 CALL(discharge, laden.slots, laden.totals, &laden.transverse, LAST_SLOT, &place)
 CALL(shift, laden.slots, laden.totals, &laden.transverse, LAST_SLOT, items + 1, &place)
 CALL(condition_aboard, laden.slots, laden.totals, laden.transverse, tanks, RUGULOSCA_TANK_ROOM, ROWS, CONDITION)
+CALL(hopper_surface, port, WIDTHS, starboard, WIDTHS, interval, 1500, surface, &place)
 
 #define NAMED(name) {"rugulosca_" #name, call_##name}
 static const struct call {
@@ -66,7 +72,7 @@ static const struct call {
 } calls[] = {
     NAMED(report), NAMED(report_straight_line), NAMED(read), NAMED(write), NAMED(rows), NAMED(rows_by_sections),
     NAMED(display), NAMED(condition), NAMED(condition_straight_line), NAMED(load), NAMED(discharge), NAMED(shift),
-    NAMED(condition_aboard),
+    NAMED(condition_aboard), NAMED(hopper_surface),
 };
 
 /* Paints what lies below the caller's frame, from `painted` up. Each word gets its own address by a mask, so that what
@@ -120,6 +126,8 @@ int main(void) {
             for (size_t r = 0; r < sizeof rooms / sizeof rooms[0]; r++) {
                 text_length = texts[t];
                 room_length = rooms[r];
+                /* refused with the rooms that are too short */
+                interval = r == 0 ? 1000 : 0;
                 /* the whole file is answered where there is room, and a second time any call takes the same */
                 size_t need = need_of(&calls[i], t == 0 && r == 0, 0);
                 assert(need == need_of(&calls[i], t == 0 && r == 0, UINTPTR_MAX));

@@ -1,9 +1,10 @@
 //! Files with a name: the paper's sample, the smallest that gives a condition, the largest, and one of forty intervals of
-//! length, which is the largest's hull with half as many.
+//! length, which is the largest's hull with half as many. Beside them the largest hopper tank.
 
 #[cfg(test)]
 use crate::calls::Reading;
-use crate::peer::ranges::{LONGEST_HULL, MOST_INTERVALS, MOST_ITEMS, MOST_TANKS, MOST_WATERLINES};
+use crate::hopper::Hopper;
+use crate::peer::ranges::{LONGEST_HULL, MOST_INTERVALS, MOST_ITEMS, MOST_TANKS, MOST_WATERLINES, MOST_WIDTHS};
 
 pub const NAMES: [&str; 4] = ["smallest", "sample", "forty", "largest"];
 
@@ -95,6 +96,12 @@ fn sideways(number: i64) -> i64 {
     } else {
         -distance
     }
+}
+
+/// As many widths as may be, curved, and further out to starboard.
+pub fn largest_hopper() -> Hopper {
+    let widths = |widest: u64| (1..=MOST_WIDTHS as u64).map(|i| widest - 900 / i).collect();
+    Hopper { port: widths(1_000), starboard: widths(1_475), interval: 875, density: 1_025 }
 }
 
 fn line(text: &mut String, numbers: impl IntoIterator<Item = i64>) {
