@@ -8,7 +8,7 @@ use crate::peer::ranges::{FEWEST_WIDTHS, LIQUID_DENSITY, MOST_WIDTHS, WIDTH, WID
 use crate::peer::rows::multipliers;
 
 /// Of answered ones.
-pub const SURFACES: [&str; 19] = [
+pub const SURFACES: [&str; 22] = [
     "2 intervals",
     "3 intervals",
     "4 intervals",
@@ -21,29 +21,41 @@ pub const SURFACES: [&str; 19] = [
     "no area",
     "nothing to port",
     "nothing to starboard",
+    "even sides and a whole inertia",
+    "even sides and an inertia rounded up",
     "less inertia than about the middle line",
-    "a moment that is whole",
-    "the greatest width",
+    "a whole moment",
+    "a width at its greatest",
+    "all widths at their greatest",
     "the least interval",
     "the greatest interval",
     "the least density",
     "the greatest density",
 ];
-/// For its tables where one thing alone is wrong with their size, and for a number; also with something wrong after it.
-pub const REFUSED_SURFACES: [&str; 11] = [
+/// For its tables, where one thing alone is wrong with their size, and for a number; then with a later one wrong besides.
+pub const REFUSED_SURFACES: [&str; 14] = [
     "unequal tables",
     "too few widths",
     "too many widths",
-    "tables before a number",
     "a width to port",
     "a width to starboard",
     "the interval",
     "the density",
-    "a width to port before a later part",
-    "a width to starboard before a later part",
+    "tables before a number",
+    "port before starboard",
+    "port before the interval",
+    "port before the density",
+    "starboard before the interval",
+    "starboard before the density",
     "the interval before the density",
 ];
 pub const MIDDLE_LINES: [&str; 2] = ["to port", "to starboard"];
+
+/// The parts of a surface in the order in which they are tried.
+const PORT: usize = 0;
+const STARBOARD: usize = 1;
+const INTERVAL: usize = 2;
+const DENSITY: usize = 3;
 
 const OUT_OF_RANGE: u64 = 4;
 const TABLE_SIZE: u64 = 7;
@@ -55,7 +67,12 @@ pub fn surface(hopper: &Hopper, seen: &Observation) -> [bool; SURFACES.len()] {
     let has = |intervals: usize| port.len() == intervals + 1;
     let [no_port, no_starboard] = [port, starboard].map(|side| side.iter().all(|&width| width == 0));
     let area = !no_port || !no_starboard;
+    let cubes = cubes(hopper);
+    let about_middle_line = cubes.div_ceil(INERTIA_DIVISOR) * interval;
+    let is_even = area && port == starboard && inertia == about_middle_line;
     let is = |number: u64, limit: i64| number == limit as u64;
+    let is_greatest = |width: &u64| is(*width, WIDTH.greatest);
+    let mut widths = port.iter().chain(starboard);
     [
         has(2),
         has(3),
@@ -69,9 +86,12 @@ pub fn surface(hopper: &Hopper, seen: &Observation) -> [bool; SURFACES.len()] {
         !area,
         area && no_port,
         area && no_starboard,
-        inertia < about_middle_line(hopper),
+        is_even && cubes.is_multiple_of(INERTIA_DIVISOR),
+        is_even && !cubes.is_multiple_of(INERTIA_DIVISOR),
+        inertia < about_middle_line,
         area && moment * MOMENT_DIVISOR == inertia * density,
-        port.iter().chain(starboard).any(|&width| is(width, WIDTH.greatest)),
+        widths.clone().any(is_greatest),
+        widths.all(is_greatest),
         is(*interval, WIDTH_INTERVAL.least),
         is(*interval, WIDTH_INTERVAL.greatest),
         is(*density, LIQUID_DENSITY.least),
@@ -79,11 +99,10 @@ pub fn surface(hopper: &Hopper, seen: &Observation) -> [bool; SURFACES.len()] {
     ]
 }
 
-/// The inertia about the middle line instead of the surface's own centre.
-fn about_middle_line(hopper: &Hopper) -> u64 {
+/// The multiplied sum of the cubes, of which the inertia about the middle line is made.
+fn cubes(hopper: &Hopper) -> u64 {
     let strips = hopper.port.iter().zip(&hopper.starboard).zip(multipliers(hopper.port.len() - 1));
-    let cubes: u64 = strips.map(|((p, q), u)| u * (p.pow(3) + q.pow(3))).sum();
-    cubes.div_ceil(INERTIA_DIVISOR) * hopper.interval
+    strips.map(|((p, q), u)| u * (p.pow(3) + q.pow(3))).sum()
 }
 
 /// Which of these a refused surface is.
@@ -93,23 +112,26 @@ pub fn refused_surface(hopper: &Hopper, seen: &Observation) -> [bool; REFUSED_SU
     let by_size = seen.number == TABLE_SIZE;
     let outside = parts_outside(hopper);
     let at = |part: usize| seen.number == OUT_OF_RANGE && part_at(port, seen.place) == part;
-    let before_another = |part: usize| at(part) && outside[part + 1..].contains(&true);
+    let before = |part: usize, later: usize| at(part) && outside[later];
     [
         by_size && port != starboard && right(port) && right(starboard),
         by_size && port == starboard && port < FEWEST_WIDTHS,
         by_size && port == starboard && port > MOST_WIDTHS,
+        at(PORT),
+        at(STARBOARD),
+        at(INTERVAL),
+        at(DENSITY),
         by_size && outside.contains(&true),
-        at(0),
-        at(1),
-        at(2),
-        at(3),
-        before_another(0),
-        before_another(1),
-        before_another(2),
+        before(PORT, STARBOARD),
+        before(PORT, INTERVAL),
+        before(PORT, DENSITY),
+        before(STARBOARD, INTERVAL),
+        before(STARBOARD, DENSITY),
+        before(INTERVAL, DENSITY),
     ]
 }
 
-/// Which parts have a number out of range: widths to port, widths to starboard, interval, density.
+/// Which parts have a number out of range.
 fn parts_outside(hopper: &Hopper) -> [bool; 4] {
     let Hopper { port, starboard, interval, density } = hopper;
     let wide = |side: &[u64]| side.iter().any(|&width| !WIDTH.has_whole(width));
@@ -119,7 +141,7 @@ fn parts_outside(hopper: &Hopper) -> [bool; 4] {
 /// The part that a place lies in, of a surface with so many widths to each side.
 fn part_at(count: usize, place: usize) -> usize {
     match place.checked_sub(2 * count) {
-        Some(beyond) => 2 + beyond,
+        Some(beyond) => INTERVAL + beyond,
         None => place / count,
     }
 }

@@ -16,7 +16,7 @@ enum Shape {
     Sliver,
     /// Wider amidships, by another curve to each side.
     Curved,
-    /// The same to both sides.
+    /// The same to both sides, by multiples of 3: without its rounding the inertia is often whole.
     Even,
     /// One breadth all along.
     Rectangle,
@@ -51,8 +51,11 @@ const SHAPES: [Shape; 16] = [
 const ROUND_WIDTH: i64 = 300;
 const ROUND_INTERVALS: [u64; 3] = [100, 500, 1_000];
 const ROUND_DENSITY: u64 = 1_000;
+const EVEN_STEP: i64 = 3;
 /// As many widths as no side may have: too few, and too many.
 const WRONG_COUNTS: [usize; 8] = [0, 1, 2, 2, MOST_WIDTHS + 1, MOST_WIDTHS + 1, MOST_WIDTHS + 2, 2 * MOST_WIDTHS];
+/// So many more agree with a right count in their low bits.
+const TWO_TO_THE_8: usize = 1 << 8;
 
 /// A surface within its ranges.
 pub fn hopper(random: &mut Random) -> Hopper {
@@ -90,9 +93,10 @@ fn sides(random: &mut Random, shape: Shape, count: usize) -> [Vec<u64>; 2] {
 fn side(random: &mut Random, shape: Shape, count: usize) -> Vec<u64> {
     let Range { least, greatest } = WIDTH;
     let n = count as i64 - 1;
-    let breadth = random.between(least, greatest);
+    let breadth = end_or_any(random, WIDTH);
     let mut width = |i: i64| match shape {
-        Shape::Ragged | Shape::Even | Shape::PortAlone | Shape::StarboardAlone => random.between(least, greatest),
+        Shape::Ragged | Shape::PortAlone | Shape::StarboardAlone => random.between(least, greatest),
+        Shape::Even => random.between(least, greatest) / EVEN_STEP * EVEN_STEP,
         Shape::Ends => random.pick(&[least, least + 1, greatest - 1, greatest]),
         Shape::Sliver => random.between(least, least + 3),
         Shape::Curved => breadth / 2 + 2 * breadth * i * (n - i) / (n * n),
@@ -110,11 +114,17 @@ pub fn damage(random: &mut Random, hopper: &mut Hopper) {
         1 => damage_size(random, &mut hopper.starboard, 1),
         2 => {
             let count = random.pick(&WRONG_COUNTS);
-            for side in [&mut hopper.port, &mut hopper.starboard] {
-                side.resize(count, side.last().copied().unwrap_or_default());
-            }
+            resize(&mut hopper.port, count);
+            resize(&mut hopper.starboard, count);
         }
         3 => {
+            for side in [&mut hopper.port, &mut hopper.starboard] {
+                if random.one_in(2) {
+                    resize(side, side.len() + TWO_TO_THE_8);
+                }
+            }
+        }
+        4 => {
             for part in 0..4 {
                 if random.one_in(2) {
                     damage_part(random, hopper, part);
@@ -126,6 +136,10 @@ pub fn damage(random: &mut Random, hopper: &mut Hopper) {
             damage_part(random, hopper, part);
         }
     }
+}
+
+fn resize(side: &mut Vec<u64>, count: usize) {
+    side.resize(count, side.last().copied().unwrap_or_default());
 }
 
 /// One number at an edge: of the widths to port, of those to starboard, the interval, or the density.

@@ -1,8 +1,8 @@
 //! The free surface of a hopper tank, strip by strip about its own centre.
 //!
-//! Not by the paper's formula, which takes the centre's part from the inertia about the middle line: each width is measured
-//! from the centre itself, in parts of a mm so small that the centre stands on a whole one. Nothing is rounded before the
-//! end. The largest sum is about 10³¹, and 128 bits hold it.
+//! Not by the paper's formula, which takes the centre's part from the inertia about the middle line: each width is
+//! measured from the centre itself, in parts of a mm so small that the centre stands on a whole one. So nothing is rounded
+//! before the end. The largest sum is about 10³¹, and 128 bits hold it.
 
 use super::ranges::{FEWEST_WIDTHS, LIQUID_DENSITY, MOST_INTERVALS, MOST_WIDTHS, WIDTH, WIDTH_INTERVAL};
 use super::rows::multipliers;
@@ -47,7 +47,8 @@ impl Strips<'_> {
 
     /// The inertia about the surface's own centre at an interval of 1 mm, rounded up.
     fn inertia(&self) -> u64 {
-        // twenty-fourths and forty-eighths: their quotient, the centre, has twice the area below it
+        // the area is in 24ths, its first moment in 48ths: of parts that are twice the area to a mm, the centre stands as
+        // many to starboard as the first moment has
         let area = self.sum(|p, q| p + q);
         let first_moment = self.sum(|p, q| q * q - p * p);
         if area == 0 {

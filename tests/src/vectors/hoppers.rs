@@ -1,5 +1,5 @@
-//! The surface of a hopper tank as a text: how many widths to port and the widths, the same to starboard, then the interval
-//! and the liquid density, a line each. The answer is a line: "A", inertia and moment, or "E" and the refusal.
+//! The surface of a hopper tank as a text: how many widths to port and the widths, the same to starboard, then the
+//! interval and the liquid density, a line each. The answer is a line: "A", inertia and moment, or "E" and the refusal.
 
 use super::refusal_line;
 use crate::calculation::Calculation;
