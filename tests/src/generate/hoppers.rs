@@ -32,12 +32,12 @@ enum Shape {
 const SHAPES: [Shape; 16] = [
     Shape::Ragged,
     Shape::Ragged,
-    Shape::Ragged,
     Shape::Ends,
     Shape::Sliver,
     Shape::Curved,
     Shape::Curved,
     Shape::Curved,
+    Shape::Even,
     Shape::Even,
     Shape::Rectangle,
     Shape::Rectangle,
@@ -96,7 +96,7 @@ fn side(random: &mut Random, shape: Shape, count: usize) -> Vec<u64> {
     let breadth = end_or_any(random, WIDTH);
     let mut width = |i: i64| match shape {
         Shape::Ragged | Shape::PortAlone | Shape::StarboardAlone => random.between(least, greatest),
-        Shape::Even => random.between(least, greatest) / EVEN_STEP * EVEN_STEP,
+        Shape::Even => random.between(breadth, greatest) / EVEN_STEP * EVEN_STEP,
         Shape::Ends => random.pick(&[least, least + 1, greatest - 1, greatest]),
         Shape::Sliver => random.between(least, least + 3),
         Shape::Curved => breadth / 2 + 2 * breadth * i * (n - i) / (n * n),
