@@ -11,6 +11,8 @@ mod tallies;
 mod texts;
 
 #[cfg(test)]
+mod trial_hoppers;
+#[cfg(test)]
 mod trial_texts;
 
 use crate::calculation::PEER;

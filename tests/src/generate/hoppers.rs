@@ -16,11 +16,11 @@ enum Shape {
     Sliver,
     /// Wider amidships, by another curve to each side.
     Curved,
-    /// The same to both sides, by multiples of 3: without its rounding the inertia is often whole.
+    /// The same to both sides by multiples of 3, so that the inertia is often whole before it is rounded.
     Even,
     /// One breadth all along.
     Rectangle,
-    /// A rectangle whose inertia and moment are whole without rounding.
+    /// A rectangle of round figures, so that the moment is whole too.
     Round,
     PortAlone,
     StarboardAlone,
@@ -47,7 +47,7 @@ const SHAPES: [Shape; 16] = [
     Shape::Speck,
     Shape::Nothing,
 ];
-/// Breadths that are a multiple of this have a whole inertia, and at such intervals and this density a whole moment.
+/// Round figures: with such widths, intervals and density the inertia and the moment of a rectangle are whole.
 const ROUND_WIDTH: i64 = 300;
 const ROUND_INTERVALS: [u64; 3] = [100, 500, 1_000];
 const ROUND_DENSITY: u64 = 1_000;
