@@ -7,7 +7,7 @@
 use mathlib.Core.Path.{_≡_, refl, sym, ap, ap₂, _∙_}
 use mathlib.Core.List.{List}
 use Prim.Native.Nat.{ℕ, _+_, _-_, _*_, _^_, _≤_}
-use native.Mathlib.Nat.{mul-pos, mul-zero, mul-assoc, mul-comm, mul-left-comm, mul-le-mul, mul-le-mul-right, add-mul, le-trans}
+use native.Mathlib.Nat.{mul-pos, mul-zero, mul-assoc, mul-comm, mul-le-mul, mul-le-mul-right, add-mul, le-trans}
 use native.Mathlib.Omega.{arith}
 use lib.IntN.{ℤ, pos, natAbs, _+ℤ_, _-ℤ_, _*ℤ_, pow}
 use lib.ListN.{length, getD, replicate, length-replicate, getD-replicate}
@@ -130,7 +130,7 @@ module _ (n : ℕ) (enough : 2 ≤ n) where
         let rounded-c = up-of c 12 (omega arith) in
         let first = up-of (n * h * b ^ 3 * density) (12 * momentUnit) (omega arith) in
         let second = up-of (inertia port starboard h * density) momentUnit (omega arith) in
-        let y-is : n * h * b ^ 3 * density ≡ c * k = simp (mul-assoc, mul-comm, mul-left-comm) in
+        let y-is : n * h * b ^ 3 * density ≡ c * k = simp (mul-assoc, mul-comm) in
         let x-is : inertia port starboard h * density ≡ r * k = ap (λ i. i * density) (rectangle-inertia h) ∙ mul-assoc r h density in
         let twelve : r * 12 * k ≡ 12 * (r * k) = ap (λ m. m * k) (mul-comm r 12) ∙ mul-assoc 12 r k in
         let low = mul-le-mul-right k (rounded-c .low) in
