@@ -6,6 +6,7 @@
 --     sum-of-none                      terms that are all none
 --     sum-plus                         a sum of sums
 --     sum-times, times-sum             a factor taken out, on the right and on the left
+--     weighted-plus, weighted-times    a sum of weighted terms is linear in the terms
 --     sum-swap                         two sums exchanged
 -- Over ℕ alone:
 --     sum-le, sum-mono                 a bound on each term; terms never larger
@@ -20,7 +21,7 @@ use Rattle.arithmetic.specs.Sum.{sumBy, sumTo}
 use Rattle.arithmetic.proofs.Algebra.{Semiring, natural}
 
 module _ {R : Type 0} (S : Semiring R) where
-  open Semiring S using (none, one, _⊕_, _⊗_, ⊕-assoc, ⊕-comm, ⊕-none, ⊗-comm, ⊗-none, ⊗-⊕)
+  open Semiring S using (none, one, _⊕_, _⊗_, ⊕-assoc, ⊕-comm, ⊕-none, ⊗-assoc, ⊗-comm, ⊗-none, ⊗-⊕)
 
   abbrev sum : ℕ → (ℕ → R) → R
   sum = sumBy _⊕_ none
@@ -77,6 +78,18 @@ module _ {R : Type 0} (S : Semiring R) where
   pub sum-times : (n : ℕ) (f : ℕ → R) (a : R) → sumBy _⊕_ none n (λ i. f i ⊗ a) ≡ sumBy _⊕_ none n f ⊗ a
   sum-times n f a =
       sum-same n (λ i. f i ⊗ a) (λ i. a ⊗ f i) (λ i l. ⊗-comm (f i) a) ∙ times-sum n a f ∙ ⊗-comm a (sum n f)
+
+  pub weighted-plus : (n : ℕ) (u f g : ℕ → R) → sumBy _⊕_ none n (λ i. u i ⊗ (f i ⊕ g i)) ≡ sumBy _⊕_ none n (λ i. u i ⊗ f i) ⊕ sumBy _⊕_ none n (λ i. u i ⊗ g i)
+  weighted-plus n u f g =
+      sum-same n (λ i. u i ⊗ (f i ⊕ g i)) (λ i. u i ⊗ f i ⊕ u i ⊗ g i) (λ i l. ⊗-⊕ (u i) (f i) (g i)) ∙ sum-plus n (λ i. u i ⊗ f i) (λ i. u i ⊗ g i)
+
+  -- a factor taken in front of a weight
+  in-front : (u a y : R) → u ⊗ (a ⊗ y) ≡ a ⊗ (u ⊗ y)
+  in-front u a y = sym (⊗-assoc u a y) ∙ ap (λ x. x ⊗ y) (⊗-comm u a) ∙ ⊗-assoc a u y
+
+  pub weighted-times : (n : ℕ) (u : ℕ → R) (a : R) (f : ℕ → R) → sumBy _⊕_ none n (λ i. u i ⊗ (a ⊗ f i)) ≡ a ⊗ sumBy _⊕_ none n (λ i. u i ⊗ f i)
+  weighted-times n u a f =
+      sum-same n (λ i. u i ⊗ (a ⊗ f i)) (λ i. a ⊗ (u i ⊗ f i)) (λ i l. in-front (u i) a (f i)) ∙ times-sum n a (λ i. u i ⊗ f i)
 
   pub sum-swap : (m n : ℕ) (f : ℕ → ℕ → R) → sumBy _⊕_ none m (λ i. sumBy _⊕_ none n (λ j. f i j)) ≡ sumBy _⊕_ none n (λ j. sumBy _⊕_ none m (λ i. f i j))
   sum-swap zero n f =

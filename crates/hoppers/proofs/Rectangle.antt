@@ -18,6 +18,7 @@ use Rattle.arithmetic.proofs.Ring.{ring}
 use Rattle.arithmetic.proofs.Rounding.{up-scaled, up-by-none, up-of, up-zero, up-least}
 use Rattle.arithmetic.proofs.Tests.{same-or-other}
 use Rattle.arithmetic.proofs.Whole.{pos-pow}
+use Rattle.ranges.specs.Fields.{rangeOf, most}
 use Rattle.simpson.specs.Curve.{curve, curveℤ}
 use Rattle.simpson.proofs.Curves.{curve-same, curve-times, curveℤ-same, curveℤ-times, pos-curve}
 use Rattle.simpson.proofs.Moments.{curve-of-one}
@@ -117,7 +118,7 @@ module _ (n : ℕ) (enough : 2 ≤ n) where
 
     -- beside l·b³·density/12,000,000,000 rounded up once, as a condition has it: never less, and at most 1 more
     pub rectangle-beside :
-        (h density : ℕ) → h ≤ 1_000 → density ≤ 1_500
+        (h density : ℕ) → h ≤ most (rangeOf 26) → density ≤ most (rangeOf 17)
         → let once = roundedUp (n * h * (p + q) ^ 3 * density) (12 * momentUnit) in
         (once ≤ moment (replicate (n + 1) p) (replicate (n + 1) q) h density) × (moment (replicate (n + 1) p) (replicate (n + 1) q) h density ≤ once + 1)
     unfolding moment
@@ -136,7 +137,7 @@ module _ (n : ℕ) (enough : 2 ≤ n) where
         let low = mul-le-mul-right k (rounded-c .low) in
         let whole : r * 12 ≤ c + 11 = omega (arith, rounded-c .high) in
         let high : r * 12 * k ≤ c * k + 11 * k = le-trans (mul-le-mul-right k whole) (omega (arith, add-mul c 11 k)) in
-        let most-k : k ≤ 1_000 * 1_500 = mul-le-mul short light in (
+        let most-k : k ≤ most (rangeOf 26) * most (rangeOf 17) = mul-le-mul short light in (
           up-least first twice .1 (omega (arith, y-is, x-is, twelve, low, second .low)),
           up-least second (once + 1) .1 (omega (arith, y-is, x-is, twelve, high, most-k, first .low)),
         )

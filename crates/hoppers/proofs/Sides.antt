@@ -1,5 +1,4 @@
 -- One side of a free surface, and the two together.
---     powers-le                                  no width is above the widest, nor its square and cube above theirs
 --     side-most                                  how large a side's sums are
 --     widths-most, squares-most, cubes-most      and on the way, width by width
 --     A-by-sides, M-by-sides, I-by-sides         A and I are what both sides give, M what starboard gives less what port gives
@@ -7,7 +6,7 @@
 use mathlib.Core.Path.{_≡_, refl, sym, ap, ap₂, _∙_}
 use mathlib.Core.List.{List}
 use Prim.Native.Nat.{ℕ, _+_, _-_, _*_, _^_, _≤_}
-use native.Mathlib.Nat.{le-trans, mul-le-mul, pow-le-pow-left}
+use native.Mathlib.Nat.{le-trans, pow-le-pow-left}
 use native.Mathlib.Omega.{arith}
 use lib.IntN.{ℤ, pos, negsuc, _+ℤ_, _-ℤ_, _*ℤ_}
 use lib.ListN.{length, getD}
@@ -20,9 +19,6 @@ use Rattle.simpson.proofs.Moments.{curve-le}
 use Rattle.simpson.proofs.Sweep.{Swept, swept-le}
 use Rattle.hoppers.specs.Private.Side.{SideInRange, sideOf, mostWidths, mostSquares, mostCubes}
 use Rattle.hoppers.specs.Surface.{A, M, I}
-
-pub powers-le : {w : ℕ} → w ≤ most (rangeOf 25) → (w * w ≤ most (rangeOf 25) ^ 2) × (w * w * w ≤ most (rangeOf 25) ^ 3)
-powers-le h = (mul-le-mul h h, mul-le-mul (mul-le-mul h h) h)
 
 module _ {widths : List ℕ} (side : SideInRange widths) where
   abbrev wide : ℕ → ℕ
@@ -49,17 +45,19 @@ module _ (port starboard : List ℕ) (as-many : length port ≡ length starboard
   abbrev n : ℕ
   n = length port - 1
 
+  -- what is made of each width, summed over both sides
+  by-sides : (f : ℕ → ℕ) → curve n (λ i. f (getD port i 0)) + curve (length starboard - 1) (λ i. f (getD starboard i 0)) ≡ curve n (λ i. f (getD port i 0) + f (getD starboard i 0))
+  by-sides f =
+      ap (λ k. curve n (λ i. f (getD port i 0)) + curve (k - 1) (λ i. f (getD starboard i 0))) (sym as-many)
+      ∙ sym (curve-plus n (λ i. f (getD port i 0)) (λ i. f (getD starboard i 0)))
+
   pub A-by-sides : sideOf port .widths + sideOf starboard .widths ≡ A port starboard
   unfolding A
-  A-by-sides =
-      sym (curve-plus n (λ i. getD port i 0) (λ i. getD starboard i 0)
-      ∙ ap (λ k. curve n (λ i. getD port i 0) + curve (k - 1) (λ i. getD starboard i 0)) as-many)
+  A-by-sides = by-sides (λ w. w)
 
   pub I-by-sides : sideOf port .cubes + sideOf starboard .cubes ≡ I port starboard
   unfolding I
-  I-by-sides =
-      sym (curve-plus n (λ i. getD port i 0 ^ 3) (λ i. getD starboard i 0 ^ 3)
-      ∙ ap (λ k. curve n (λ i. getD port i 0 ^ 3) + curve (k - 1) (λ i. getD starboard i 0 ^ 3)) as-many)
+  I-by-sides = by-sides (λ w. w ^ 3)
 
   pub M-by-sides : pos (sideOf starboard .squares) -ℤ pos (sideOf port .squares) ≡ M port starboard
   unfolding M

@@ -1,7 +1,6 @@
 -- How large the sums of a hull in range are.
 --     place-within               a half-breadth's place is in the table
 --     half-breadth-le            no half-breadth is above the greatest
---     powers-le                  nor its square and cube above theirs
 --     Q-le, C-le                 a waterline's sums, by the area of the rectangle around it
 --     area-most, moment-most     a station's, up to a waterline
 --     X-le                       at most the last station's number times Q
@@ -45,9 +44,6 @@ module _ (table : List ℕ) (p : Particulars) where
       (le-trans (curve-mono k (X table p) (λ j. p .n * Q table p j) (λ j l. X-le j)) (omega (arith, curve-times k (p .n) (Q table p))))
 
 -- the powers of a half-breadth
-pub powers-le : {y : ℕ} → y ≤ most (rangeOf 5) → (y * y ≤ most (rangeOf 5) ^ 2) × (y * y * y ≤ most (rangeOf 5) ^ 3)
-powers-le h = (mul-le-mul h h, mul-le-mul (mul-le-mul h h) h)
-
 module _ {table : List ℕ} {p : Particulars} (hull : InRange table p) where
   -- a place of the table
   pub place-within : {i j : ℕ} → i ≤ p .n → j ≤ p .m → (i * (p .m + 1) ≤ most (rangeOf 0) * (most (rangeOf 1) + 1)) × (i * (p .m + 1) + j < length table)

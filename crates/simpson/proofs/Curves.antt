@@ -7,16 +7,15 @@
 --     pos-curve                    the same over numbers of either sign
 --     curve-few                    nothing over fewer than two intervals, for which there is no rule
 -- How large it is, and what it is for a cubic: `Moments`. Assumes nothing.
-use mathlib.Core.Path.{_≡_, refl, sym, ap, _∙_}
+use mathlib.Core.Path.{_≡_, sym, ap, _∙_}
 use Prim.Native.Nat.{ℕ, zero, suc, _+_, _*_, _≤_, _<_}
-use native.Mathlib.Nat.{mul-add, mul-left-comm, mul-le-mul-left}
+use native.Mathlib.Nat.{mul-left-comm, mul-le-mul-left}
 use native.Mathlib.Omega.{arith}
 use lib.IntN.{ℤ, pos, _+ℤ_, _*ℤ_}
 use Rattle.arithmetic.specs.Sum.{sumBy, sumTo}
 use Rattle.arithmetic.proofs.Algebra.{natural}
-use Rattle.arithmetic.proofs.Integer.{integer, *ℤ-+ℤ, solveℤ}
-use Rattle.arithmetic.proofs.Polynomial.{_:*_}
-use Rattle.arithmetic.proofs.Sums.{sum-same, sum-plus, times-sum, sum-swap, sum-mono}
+use Rattle.arithmetic.proofs.Integer.{integer}
+use Rattle.arithmetic.proofs.Sums.{sum-same, times-sum, weighted-plus, weighted-times, sum-swap, sum-mono}
 use Rattle.simpson.specs.Multipliers.{multiplier}
 use Rattle.arithmetic.proofs.Whole.{pos-sum}
 use Rattle.simpson.specs.Curve.{curve, curveℤ}
@@ -32,28 +31,19 @@ module _ (n : ℕ) where
 
   pub curve-plus : (y z : ℕ → ℕ) → curve n (λ i. y i + z i) ≡ curve n y + curve n z
   unfolding curve
-  curve-plus y z =
-      sum-same natural (n + 1) _ (λ i. multiplier n i * y i + multiplier n i * z i) (λ i l. mul-add (multiplier n i) (y i) (z i))
-      ∙ sum-plus natural (n + 1) (λ i. multiplier n i * y i) (λ i. multiplier n i * z i)
+  curve-plus y z = weighted-plus natural (n + 1) (multiplier n) y z
 
   pub curve-times : (a : ℕ) (y : ℕ → ℕ) → curve n (λ i. a * y i) ≡ a * curve n y
   unfolding curve
-  curve-times a y =
-      sum-same natural (n + 1) _ (λ i. a * (multiplier n i * y i)) (λ i l. mul-left-comm (multiplier n i) a (y i))
-      ∙ times-sum natural (n + 1) a (λ i. multiplier n i * y i)
+  curve-times a y = weighted-times natural (n + 1) (multiplier n) a y
 
   pub curveℤ-plus : (y z : ℕ → ℤ) → curveℤ n (λ i. y i +ℤ z i) ≡ curveℤ n y +ℤ curveℤ n z
   unfolding curveℤ
-  curveℤ-plus y z =
-      sum-same integer (n + 1) _ (λ i. pos (multiplier n i) *ℤ y i +ℤ pos (multiplier n i) *ℤ z i) (λ i l. *ℤ-+ℤ (pos (multiplier n i)) (y i) (z i))
-      ∙ sum-plus integer (n + 1) (λ i. pos (multiplier n i) *ℤ y i) (λ i. pos (multiplier n i) *ℤ z i)
+  curveℤ-plus y z = weighted-plus integer (n + 1) (λ i. pos (multiplier n i)) y z
 
   pub curveℤ-times : (a : ℤ) (y : ℕ → ℤ) → curveℤ n (λ i. a *ℤ y i) ≡ a *ℤ curveℤ n y
   unfolding curveℤ
-  curveℤ-times a y =
-      sum-same integer (n + 1) _ (λ i. a *ℤ (pos (multiplier n i) *ℤ y i))
-      (λ i l. solveℤ 3 (λ u a y. u :* (a :* y)) (λ u a y. a :* (u :* y)) refl (pos (multiplier n i)) a (y i))
-      ∙ times-sum integer (n + 1) a (λ i. pos (multiplier n i) *ℤ y i)
+  curveℤ-times a y = weighted-times integer (n + 1) (λ i. pos (multiplier n i)) a y
 
   pub curve-mono : (y z : ℕ → ℕ) → ((i : ℕ) → i ≤ n → y i ≤ z i) → curve n y ≤ curve n z
   unfolding curve

@@ -4,10 +4,11 @@ use mathlib.Core.Path.{refl, sym}
 use native.Mathlib.Omega.{arith}
 use borrow.Author.Needs.{needs}
 use lib.ListN.{getD}
+use Rattle.arithmetic.proofs.Products.{powers-le}
 use Rattle.arithmetic.proofs.Ring.{pow2, pow3}
 use Rattle.ranges.specs.Fields.{rangeOf, most}
 use Rattle.simpson.proofs.Sweep.{Swept, swept-none, swept-more, swept-all}
-use Rattle.hoppers.proofs.Sides.{powers-le, widths-most, squares-most, cubes-most}
+use Rattle.hoppers.proofs.Sides.{widths-most, squares-most, cubes-most}
 use Rattle.hoppers.proofs.side_of.Statement.{statement}
 use Rattle.hoppers.proofs.side_of.Tie as tie
 

@@ -2,12 +2,13 @@
 use Prim.Native.Nat.{_+_, _-_, _*_, _^_, _≤_}
 use mathlib.Core.Path.{refl, sym, ap, _∙_}
 use native.Mathlib.Omega.{arith}
+use Rattle.arithmetic.proofs.Products.{powers-le}
 use Rattle.arithmetic.proofs.Ring.{pow3}
 use Rattle.ranges.specs.Fields.{rangeOf, most}
 use Rattle.hydrostatics.specs.Hull.{halfBreadth}
 use Rattle.hydrostatics.specs.Private.Sections.{areaAt, momentAt}
 use Rattle.hydrostatics.proofs.Filling.{Filling, filling-none, filling-more}
-use Rattle.hydrostatics.proofs.Limits.{half-breadth-le, powers-le}
+use Rattle.hydrostatics.proofs.Limits.{half-breadth-le}
 use Rattle.hydrostatics.proofs.Stations.{all-along}
 use Rattle.hydrostatics.proofs.sections.sections_at.Statement.{statement}
 use Rattle.hydrostatics.proofs.sections.sections_at.Tie as tie

@@ -2,12 +2,13 @@
 use Prim.Native.Nat.{_+_, _-_, _*_, _^_, _≤_}
 use mathlib.Core.Path.{sym, ap, _∙_}
 use native.Mathlib.Omega.{arith}
+use Rattle.arithmetic.proofs.Products.{powers-le}
 use Rattle.arithmetic.proofs.Ring.{pow3}
 use Rattle.ranges.specs.Fields.{rangeOf, most}
 use Rattle.simpson.proofs.Sweep.{Swept, swept-none, swept-more, swept-all}
 use Rattle.hydrostatics.specs.Hull.{halfBreadth}
 use Rattle.hydrostatics.proofs.Exchange.{C-is}
-use Rattle.hydrostatics.proofs.Limits.{half-breadth-le, powers-le}
+use Rattle.hydrostatics.proofs.Limits.{half-breadth-le}
 use Rattle.hydrostatics.proofs.Sweep.{c-most}
 use Rattle.hydrostatics.proofs.waterplanes.cube_sum.Statement.{statement}
 use Rattle.hydrostatics.proofs.waterplanes.cube_sum.Tie as tie
