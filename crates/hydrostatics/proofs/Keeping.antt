@@ -1,24 +1,28 @@
 -- From what is kept of a hull to the sums of a row.
 --     kept-small        how large what is kept is
---     sums-are          the sums over the waterlines 0..k, Q and C are the row's
+--     sums-are          what is made of it is the row's five
+--     small-below       what is small up to a waterline is so up to one below it
+--     kept-sums         the sums of every row
 -- Assumes nothing.
 use mathlib.Core.Path.{_≡_, sym, ap, _∙_}
 use mathlib.Core.List.{List}
 use Prim.Native.Nat.{ℕ, _*_, _≤_}
 use native.Mathlib.Omega.{arith}
 use lib.ListN.{getD}
+use Rattle.ranges.specs.Sizes.{rowsOver}
 use Rattle.ranges.specs.declared.Particulars.{Particulars}
+use Rattle.simpson.specs.Curve.{curve}
 use Rattle.simpson.proofs.Curves.{curve-same}
 use Rattle.hydrostatics.specs.Hull.{S, Sz, Sx, Q, C}
-use Rattle.hydrostatics.specs.Row.{sumsAt}
-use Rattle.hydrostatics.specs.Private.Hull.{InRange}
-use Rattle.hydrostatics.specs.Private.Waterplanes.{X, Kept, Small, Over}
+use Rattle.hydrostatics.specs.Row.{sumsAt, waterlineOf}
+use Rattle.hydrostatics.specs.Private.Hull.{Filled, InRange}
+use Rattle.hydrostatics.specs.Private.Sums.{noSums, MakesSums}
+use Rattle.hydrostatics.specs.Private.Waterplanes.{X, Kept, Small, sumsFrom}
 use Rattle.hydrostatics.specs.declared.table.Sums.{Sums}
-use Rattle.hydrostatics.specs.declared.waterplanes.Volume.{Volume}
 use Rattle.hydrostatics.proofs.Exchange.{S-is, Sz-is, Sx-is}
 use Rattle.hydrostatics.proofs.Limits.{Q-most, X-most}
 
-module _ {table : List ℕ} {p : Particulars} {q x : List ℕ} (kept : Kept table p q x) {k : ℕ} (h : k ≤ p .m) where
+module _ {table : List ℕ} {p : Particulars} {q x c : List ℕ} (kept : Kept table p q x c) {k : ℕ} (h : k ≤ p .m) where
   q-at : (j : ℕ) → j ≤ k → getD q j 0 ≡ Q table p j
   q-at j l = kept .q-is .at j (omega arith)
 
@@ -32,9 +36,19 @@ module _ {table : List ℕ} {p : Particulars} {q x : List ℕ} (kept : Kept tabl
     x-most = λ j l. rw (x-at j l) (X-most hull j);
   }
 
-  pub sums-are : {volume : Volume} → Over k q x volume → {c : ℕ} → c ≡ C table p k → _≡_ {A = Sums} (record { sum = volume .sum; sz = volume .sz; sx = volume .sx; q = getD q k 0; c = c }) (sumsAt table p k)
-  sums-are {volume} over cubes =
-      let sum : volume .sum ≡ S table p k = over .sum-is ∙ curve-same k _ _ q-at ∙ sym (S-is table p k) in
-      let sz : volume .sz ≡ Sz table p k = over .sz-is ∙ curve-same k _ _ (λ j l. ap (λ y. y * j) (q-at j l)) ∙ sym (Sz-is table p k) in
-      let sx : volume .sx ≡ Sx table p k = over .sx-is ∙ curve-same k _ _ x-at ∙ sym (Sx-is table p k) in
-      rw (sum, sz, sx, q-at k (omega arith), cubes)
+  pub sums-are : sumsFrom q x c k ≡ sumsAt table p k
+  sums-are =
+      let sum : curve k (λ j. getD q j 0) ≡ S table p k = curve-same k _ _ q-at ∙ sym (S-is table p k) in
+      let sz : curve k (λ j. getD q j 0 * j) ≡ Sz table p k = curve-same k _ _ (λ j l. ap (λ y. y * j) (q-at j l)) ∙ sym (Sz-is table p k) in
+      let sx : curve k (λ j. getD x j 0) ≡ Sx table p k = curve-same k _ _ x-at ∙ sym (Sx-is table p k) in
+      rw (sum, sz, sx, q-at k (omega arith), kept .c-is .at k (omega arith))
+
+pub small-below : {q x : List ℕ} {m : ℕ} → Small m q x → {k : ℕ} → k ≤ m → Small k q x
+small-below small h = record {
+  k-most = omega (arith, small .k-most);
+  q-most = λ j l. small .q-most j (omega arith);
+  x-most = λ j l. small .x-most j (omega arith);
+}
+
+pub kept-sums : {table : List ℕ} {p : Particulars} {q x c : List ℕ} → Kept table p q x c → {sums : List Sums} → Filled noSums (λ r. sumsFrom q x c (waterlineOf r)) (rowsOver (p .m)) sums → MakesSums table p sums
+kept-sums kept filled = record { each = record { at = λ r h. filled .at r h ∙ sums-are kept (omega arith) } }

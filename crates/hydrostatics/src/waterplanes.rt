@@ -1,14 +1,15 @@
-// The sums over the waterplanes of a hull. For each waterline the sums of u·y and of u·y·i are made once for the hull, so that
-// a row costs its waterlines and not the whole hull again.
+// The sums over the waterplanes of a hull. What a waterline contributes, the sums of u·y, of u·y·i and of u·y³, is gathered in
+// one sweep over its half-breadths and kept for the hull: a row is made of what is kept, and reads no half-breadth again.
 ghost use mathlib.Core.Path.{_≡_};
 ghost use Prim.Native.Nat.{_+_, _≤_};
 ghost use Rattle.ranges.specs.Fields.{rangeOf, most};
+ghost use Rattle.ranges.specs.Sizes.{rowsOver};
 ghost use Rattle.simpson.specs.Multipliers.{multiplier};
-ghost use Rattle.hydrostatics.specs.Hull.{halfBreadth, C};
-ghost use Rattle.hydrostatics.specs.Row.{sumsAt};
+ghost use Rattle.hydrostatics.specs.Hull.{halfBreadth};
+ghost use Rattle.hydrostatics.specs.Row.{waterlineOf};
 ghost use Rattle.hydrostatics.specs.Private.Hull.{Filled, InRange};
-ghost use Rattle.hydrostatics.specs.Private.Sums.{MakesSums};
-ghost use Rattle.hydrostatics.specs.Private.Waterplanes.{Given, WaterlineOf, Kept, Small, Over};
+ghost use Rattle.hydrostatics.specs.Private.Sums.{noSums, MakesSums};
+ghost use Rattle.hydrostatics.specs.Private.Waterplanes.{Given, WaterlineOf, Kept, Small, sumsFrom};
 use crate::MOST_ROWS;
 use crate::table::FIRST_WATERLINE;
 use crate::table::NO_SUMS;
@@ -17,23 +18,18 @@ use ranges::MOST_STATIONS;
 use ranges::MOST_WATERLINES;
 use ranges::Particulars;
 
-// The sums over one waterline: of u·y, and of u·y times the station's number.
+// What one waterline contributes: the sums of u·y, of u·y times the station's number, and of u·y³.
 struct Waterline {
     pub q: u64,
     pub x: u64,
+    pub c: u64,
 }
 
-// The sums over every waterline.
+// The same of every waterline.
 struct Waterplanes {
     pub q: [u64; MOST_WATERLINES],
     pub x: [u64; MOST_WATERLINES],
-}
-
-// The sums over the waterlines of a row: of u·v·y, and of each term times its waterline's and times its station's number.
-struct Volume {
-    pub sum: u64,
-    pub sz: u64,
-    pub sx: u64,
+    pub c: [u64; MOST_WATERLINES],
 }
 
 // The multipliers of the stations over n intervals.
@@ -58,7 +54,7 @@ fn half_breadth_at(table: &[u64], p: Particulars, i: usize, j: usize) -> u64
     table[i * (p.m + 1) + j]
 }
 
-// The sums over waterline j.
+// What waterline j contributes, in one sweep.
 fn waterline_sums(table: &[u64], u: &[u64; MOST_STATIONS], p: Particulars, j: usize) -> Waterline
     requires { ⌜ (Given (now table) p (now u)) × (j ≤ p .m) ⌝ }
     ensures { λ r. ⌜ WaterlineOf (now (table .entry)) p j r ⌝ }
@@ -66,54 +62,43 @@ fn waterline_sums(table: &[u64], u: &[u64; MOST_STATIONS], p: Particulars, j: us
     let n = p.n;
     let mut q: u64 = 0;
     let mut x: u64 = 0;
+    let mut c: u64 = 0;
     let mut i: usize = 0;
     while i <= n {
-        let uy = u[i] * half_breadth_at(table, p, i, j);
+        let y = half_breadth_at(table, p, i, j);
+        let uy = u[i] * y;
         q += uy;
         x += uy * i as u64;
+        c += uy * (y * y);
         i += 1;
     }
-    Waterline { q, x }
+    Waterline { q, x, c }
 }
 
-// The sums over every waterline, each made once.
+// What every waterline contributes, each swept once.
 fn waterplane_sums(table: &[u64], u: &[u64; MOST_STATIONS], p: Particulars) -> Waterplanes
     requires { ⌜ Given (now table) p (now u) ⌝ }
-    ensures { λ r. ⌜ Kept (now (table .entry)) p (r .q) (r .x) ⌝ }
+    ensures { λ r. ⌜ Kept (now (table .entry)) p (r .q) (r .x) (r .c) ⌝ }
 {
     let m = p.m;
     let mut q = [0u64; MOST_WATERLINES];
     let mut x = [0u64; MOST_WATERLINES];
+    let mut c = [0u64; MOST_WATERLINES];
     let mut j: usize = 0;
     while j <= m {
         let line = waterline_sums(table, u, p, j);
         q[j] = line.q;
         x[j] = line.x;
+        c[j] = line.c;
         j += 1;
     }
-    Waterplanes { q, x }
+    Waterplanes { q, x, c }
 }
 
-// The sum of u·y³ over waterline k.
-fn cube_sum(table: &[u64], u: &[u64; MOST_STATIONS], p: Particulars, k: usize) -> u64
-    requires { ⌜ (Given (now table) p (now u)) × (k ≤ p .m) ⌝ }
-    ensures { λ r. ⌜ r ≡ C (now (table .entry)) p k ⌝ }
-{
-    let n = p.n;
-    let mut c: u64 = 0;
-    let mut i: usize = 0;
-    while i <= n {
-        let y = half_breadth_at(table, p, i, k);
-        c += u[i] * (y * y * y);
-        i += 1;
-    }
-    c
-}
-
-// The sums over the waterlines 0..k, from what is kept of each.
-fn row_sums(q: &[u64; MOST_WATERLINES], x: &[u64; MOST_WATERLINES], k: usize) -> Volume
+// The five sums of the row of waterline k, from what is kept of the waterlines 0..k.
+fn row_sums(q: &[u64; MOST_WATERLINES], x: &[u64; MOST_WATERLINES], c: &[u64; MOST_WATERLINES], k: usize) -> Sums
     requires { ⌜ Small k (now q) (now x) ⌝ }
-    ensures { λ r. ⌜ Over k (now (q .entry)) (now (x .entry)) r ⌝ }
+    ensures { λ r. ⌜ r ≡ sumsFrom (now (q .entry)) (now (x .entry)) (now (c .entry)) k ⌝ }
 {
     let mut sum: u64 = 0;
     let mut sz: u64 = 0;
@@ -127,30 +112,27 @@ fn row_sums(q: &[u64; MOST_WATERLINES], x: &[u64; MOST_WATERLINES], k: usize) ->
         sx += v * x[j];
         j += 1;
     }
-    Volume { sum, sz, sx }
+    Sums {
+        sum,
+        sz,
+        sx,
+        q: q[k],
+        c: c[k],
+    }
 }
 
-// The five sums of the row of waterline k, from what is kept of the hull.
-fn sums_at(
-    table: &[u64],
-    u: &[u64; MOST_STATIONS],
-    q: &[u64; MOST_WATERLINES],
-    x: &[u64; MOST_WATERLINES],
-    p: Particulars,
-    k: usize,
-) -> Sums
-    requires { ⌜ (Given (now table) p (now u)) × (Kept (now table) p (now q) (now x)) × (k ≤ p .m) ⌝ }
-    ensures { λ r. ⌜ r ≡ sumsAt (now (table .entry)) p k ⌝ }
+// The five sums of every row up to waterline m.
+fn rows_sums(q: &[u64; MOST_WATERLINES], x: &[u64; MOST_WATERLINES], c: &[u64; MOST_WATERLINES], m: usize) -> [Sums; MOST_ROWS]
+    requires { ⌜ Small m (now q) (now x) ⌝ }
+    ensures { λ r. ⌜ Filled noSums (λ row. sumsFrom (now (q .entry)) (now (x .entry)) (now (c .entry)) (waterlineOf row)) (rowsOver m) r ⌝ }
 {
-    let volume = row_sums(q, x, k);
-    let c = cube_sum(table, u, p, k);
-    Sums {
-        sum: volume.sum,
-        sz: volume.sz,
-        sx: volume.sx,
-        q: q[k],
-        c,
+    let mut sums = [NO_SUMS; MOST_ROWS];
+    let mut r: usize = 0;
+    while r + FIRST_WATERLINE <= m {
+        sums[r] = row_sums(q, x, c, r + FIRST_WATERLINE);
+        r += 1;
     }
+    sums
 }
 
 // The five sums of every row of a hull in range.
@@ -162,12 +144,6 @@ pub(crate) fn hull_sums(table: &[u64], p: Particulars) -> [Sums; MOST_ROWS]
     let planes = waterplane_sums(table, &u, p);
     let q = planes.q;
     let x = planes.x;
-    let count = p.m - 1;
-    let mut sums = [NO_SUMS; MOST_ROWS];
-    let mut r: usize = 0;
-    while r < count {
-        sums[r] = sums_at(table, &u, &q, &x, p, r + FIRST_WATERLINE);
-        r += 1;
-    }
-    sums
+    let c = planes.c;
+    rows_sums(&q, &x, &c, p.m)
 }

@@ -1,15 +1,16 @@
 -- The sum over a curve, station by station.
 --     Swept                              what it is after the first i stations
 --     swept-none, swept-more             before the first; one station more, in the code's `i + 1`
---     swept-moment                       one station more of a moment
+--     swept-moment, swept-cube           one station more of a moment, and of cubes
 --     swept-le, swept-all                never more than the whole; after the last station it is the whole
 -- Assumes nothing.
 use mathlib.Core.Path.{_≡_, sym, ap, ap₂, _∙_}
-use Prim.Native.Nat.{ℕ, _+_, _*_, _≤_, _<_}
+use Prim.Native.Nat.{ℕ, _+_, _*_, _^_, _≤_, _<_}
 use native.Mathlib.Nat.{mul-assoc}
 use native.Mathlib.Omega.{arith}
 use Rattle.arithmetic.specs.Sum.{sumTo}
 use Rattle.arithmetic.proofs.Algebra.{natural}
+use Rattle.arithmetic.proofs.Ring.{pow3}
 use Rattle.arithmetic.proofs.Sums.{sum-none, sum-more, sum-grows}
 use Rattle.simpson.specs.Multipliers.{multiplier}
 use Rattle.simpson.specs.Curve.{curve}
@@ -39,3 +40,8 @@ module _ {n : ℕ} {y : ℕ → ℕ} where
 -- the same where each ordinate is multiplied by its station's number last
 pub swept-moment : {n : ℕ} (y : ℕ → ℕ) {i s : ℕ} → Swept n (λ i. y i * i) i s → i ≤ n → {u v : ℕ} → u ≡ multiplier n i → v ≡ y i → Swept n (λ i. y i * i) (i + 1) (s + u * v * i)
 swept-moment y {i} so h {u} {v} e f = rw (mul-assoc u v i) (swept-more so h e (ap (λ v. v * i) f))
+
+-- and where it is multiplied by its own square
+pub swept-cube : {n : ℕ} (y : ℕ → ℕ) {i s : ℕ} → Swept n (λ i. y i ^ 3) i s → i ≤ n → {u v : ℕ} → u ≡ multiplier n i → v ≡ y i → Swept n (λ i. y i ^ 3) (i + 1) (s + u * v * (v * v))
+swept-cube y {i} so h {u} {v} e f =
+    rw (mul-assoc u v (v * v)) (swept-more so h e (sym (mul-assoc v v v) ∙ sym (pow3 v) ∙ ap (λ v. v ^ 3) f))

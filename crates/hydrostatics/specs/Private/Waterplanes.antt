@@ -7,10 +7,10 @@ use Rattle.ranges.specs.Fields.{rangeOf, most}
 use Rattle.ranges.specs.declared.Particulars.{Particulars}
 use Rattle.simpson.specs.Multipliers.{multiplier}
 use Rattle.simpson.specs.Curve.{curve}
-use Rattle.hydrostatics.specs.Hull.{halfBreadth, Q}
+use Rattle.hydrostatics.specs.Hull.{halfBreadth, Q, C}
 use Rattle.hydrostatics.specs.Private.Hull.{Filled, InRange}
 use Rattle.hydrostatics.specs.Private.Sums.{mostQ}
-use Rattle.hydrostatics.specs.declared.waterplanes.Volume.{Volume}
+use Rattle.hydrostatics.specs.declared.table.Sums.{Sums}
 use Rattle.hydrostatics.specs.declared.waterplanes.Waterline.{Waterline}
 
 -- a hull in range, and its station multipliers u
@@ -18,18 +18,20 @@ pub record Given (table : List ℕ) (p : Particulars) (u : List ℕ) : Type 0 wh
   pub hull : InRange table p
   pub multipliers : Filled 0 (multiplier (p .n)) (p .n + 1) u
 
--- the sum of u·y·i at waterline j, beside the sum of u·y, which is Q
+-- the sum of u·y·i at waterline j, beside those of u·y and of u·y³, which are Q and C
 unfoldable pub X : List ℕ → Particulars → ℕ → ℕ
 X table p j = curve (p .n) (λ i. halfBreadth table p i j * i)
 
 pub record WaterlineOf (table : List ℕ) (p : Particulars) (j : ℕ) (line : Waterline) : Type 0 where
   pub q-is : line .q ≡ Q table p j
   pub x-is : line .x ≡ X table p j
+  pub c-is : line .c ≡ C table p j
 
 -- the sums of every waterline of a hull
-pub record Kept (table : List ℕ) (p : Particulars) (q x : List ℕ) : Type 0 where
+pub record Kept (table : List ℕ) (p : Particulars) (q x c : List ℕ) : Type 0 where
   pub q-is : Filled 0 (Q table p) (p .m + 1) q
   pub x-is : Filled 0 (X table p) (p .m + 1) x
+  pub c-is : Filled 0 (C table p) (p .m + 1) c
 
 -- how large the sum of u·y·i over a waterline is
 abbrev pub mostX : ℕ
@@ -41,8 +43,12 @@ pub record Small (k : ℕ) (q x : List ℕ) : Type 0 where
   pub q-most : (j : ℕ) → j ≤ k → getD q j 0 ≤ mostQ
   pub x-most : (j : ℕ) → j ≤ k → getD x j 0 ≤ mostX
 
--- the sums over the waterlines 0..k, each curve through what is kept of them
-pub record Over (k : ℕ) (q x : List ℕ) (volume : Volume) : Type 0 where
-  pub sum-is : volume .sum ≡ curve k (λ j. getD q j 0)
-  pub sz-is : volume .sz ≡ curve k (λ j. getD q j 0 * j)
-  pub sx-is : volume .sx ≡ curve k (λ j. getD x j 0)
+-- the five sums of waterline k: three are curves over the waterlines 0..k through what is kept of them, two are kept of it
+abbrev pub sumsFrom : (q x c : List ℕ) → ℕ → Sums
+sumsFrom q x c k = record {
+  sum = curve k (λ j. getD q j 0);
+  sz = curve k (λ j. getD q j 0 * j);
+  sx = curve k (λ j. getD x j 0);
+  q = getD q k 0;
+  c = getD c k 0;
+}

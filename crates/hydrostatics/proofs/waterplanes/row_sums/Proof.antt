@@ -10,10 +10,10 @@ use Rattle.hydrostatics.proofs.waterplanes.row_sums.Statement.{statemen
 use Rattle.hydrostatics.proofs.waterplanes.row_sums.Tie as tie
 
 abbrev Inv-loop : tie.InvT-loop
-Inv-loop q x k sum₀ sz₀ sx₀ j₀ sum sz sx j = Swept k (λ j. getD q j 0) j sum × Swept k (λ j. getD q j 0 * j) j sz × Swept k (λ j. getD x j 0) j sx
+Inv-loop q x c k sum₀ sz₀ sx₀ j₀ sum sz sx j = Swept k (λ j. getD q j 0) j sum × Swept k (λ j. getD q j 0 * j) j sz × Swept k (λ j. getD x j 0) j sx
 
 abbrev μ-loop : tie.MeasureT-loop
-μ-loop q x k sum₀ sz₀ sx₀ j₀ sum sz sx j = k + 1 - j
+μ-loop q x c k sum₀ sz₀ sx₀ j₀ sum sz sx j = k + 1 - j
 
 loop-holds : tie.Need-loop-holds Inv-loop μ-loop
 loop-holds c = (swept-none, swept-none, swept-none)
@@ -77,14 +77,22 @@ add-j c = omega arith
 loop-less : tie.Need-loop-less Inv-loop μ-loop
 loop-less c = omega arith
 
+mul-t19 : tie.Need-mul-t19 Inv-loop μ-loop
+mul-t19 c = omega arith
+
+element-copy-out-t22 : tie.Need-element-copy-out-t22 Inv-loop μ-loop
+element-copy-out-t22 c = omega arith
+
+mul-t23 : tie.Need-mul-t23 Inv-loop μ-loop
+mul-t23 c = omega arith
+
+element-copy-out-t26 : tie.Need-element-copy-out-t26 Inv-loop μ-loop
+element-copy-out-t26 c = omega arith
+
 returns : tie.Need-returns Inv-loop μ-loop
 returns c =
-    let l = c .before .loop .inv in
-    record {
-      sum-is = swept-all (l .0) (omega arith);
-      sz-is = swept-all (l .1) (omega arith);
-      sx-is = swept-all (l .2) (omega arith);
-    }
+    let l = c .before .before .before .loop .inv in
+    rw (swept-all (l .0) (omega arith), swept-all (l .1) (omega arith), swept-all (l .2) (omega arith))
 
 pub row-sums-spec : {M : Type 1} → statement M
 row-sums-spec =
@@ -107,4 +115,8 @@ row-sums-spec =
     add-j
     loop-less
     loop-again
+    mul-t19
+    element-copy-out-t22
+    mul-t23
+    element-copy-out-t26
     returns)
