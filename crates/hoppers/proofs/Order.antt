@@ -16,7 +16,7 @@ use Rattle.arithmetic.proofs.Tests.{by-test}
 use Rattle.ranges.specs.Fields.{hopperWidth}
 use Rattle.ranges.specs.Outcome.{refused}
 use Rattle.ranges.specs.Outside.{firstOutside}
-use Rattle.ranges.proofs.Facts.{all-inside, whole-within, not-within}
+use Rattle.ranges.proofs.Facts.{wholes-inside, whole-within, not-within}
 use Rattle.ranges.proofs.Outside.{outside-first}
 use Rattle.hoppers.specs.Hopper.{countsFit, found, surfaceOf, MakesSurface}
 use Rattle.hoppers.specs.declared.Answer.{Answer}
@@ -37,9 +37,7 @@ module _ (widths : List ℕ) where
       (λ j l. rw (mod-one, wide-at j) (whole-within 0 1_500 (getD widths j 0) (omega arith, before j l))))
 
   none-wide : ((i : ℕ) → i < length widths → getD widths i 0 ≤ 1_500) → length widths ≡ firstOutside hopperWidth (map pos widths)
-  none-wide all =
-      sym (all-inside hopperWidth (map pos widths) (λ i l. rw (mod-one, wide-at i) (whole-within 0 1_500 (getD widths i 0) (omega arith, all i (omega (arith, length-map widths pos)))))
-      ∙ length-map widths pos)
+  none-wide all = sym (wholes-inside 0 1_500 widths (λ i l. (omega arith, all i l)))
 
 -- ---- the answer
 module _ {port starboard : List ℕ} {h density : ℕ} {answer : Answer} (made : MakesSurface port starboard h density answer) where

@@ -2,6 +2,7 @@
 pub mod Filling
 pub mod Exchange
 pub mod Limits
+pub mod Tried
 pub mod Sweep
 pub mod Keeping
 pub mod Formulas

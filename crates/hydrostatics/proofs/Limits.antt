@@ -1,5 +1,5 @@
 -- How large the sums of a hull in range are.
---     place-within               a half-breadth's place is in the table
+--     place-within, complete     a half-breadth's place is in the table of a complete hull, which one in range is
 --     half-breadth-le            no half-breadth is above the greatest
 --     Q-le, C-le                 a waterline's sums, by the area of the rectangle around it
 --     area-most, moment-most     a station's, up to a waterline
@@ -18,7 +18,7 @@ use Rattle.simpson.specs.Curve.{curve}
 use Rattle.simpson.proofs.Curves.{curve-times, curve-mono}
 use Rattle.simpson.proofs.Moments.{curve-le}
 use Rattle.hydrostatics.specs.Hull.{halfBreadth, S, Sz, Sx, Q, C}
-use Rattle.hydrostatics.specs.Private.Hull.{InRange}
+use Rattle.hydrostatics.specs.Private.Hull.{Complete, InRange}
 use Rattle.hydrostatics.specs.Private.Sections.{areaAt, momentAt, mostArea}
 use Rattle.hydrostatics.specs.Private.Sums.{mostQ, mostC, mostS, mostSz, mostSx}
 use Rattle.hydrostatics.specs.Private.Waterplanes.{X, mostX}
@@ -43,15 +43,18 @@ module _ (table : List ℕ) (p : Particulars) where
       rw (S-is table p k, Sx-is table p k)
       (le-trans (curve-mono k (X table p) (λ j. p .n * Q table p j) (λ j l. X-le j)) (omega (arith, curve-times k (p .n) (Q table p))))
 
--- the powers of a half-breadth
-module _ {table : List ℕ} {p : Particulars} (hull : InRange table p) where
-  -- a place of the table
-  pub place-within : {i j : ℕ} → i ≤ p .n → j ≤ p .m → (i * (p .m + 1) ≤ most (rangeOf 0) * (most (rangeOf 1) + 1)) × (i * (p .m + 1) + j < length table)
-  place-within h k =
-      let stations = le-trans h (hull .particulars .n-most) in
-      let waterlines : p .m + 1 ≤ most (rangeOf 1) + 1 = omega (arith, hull .particulars .m-most) in
-      (mul-le-mul stations waterlines, omega (arith, hull .complete, mul-le-mul-right (p .m + 1) h, add-mul (p .n) 1 (p .m + 1)))
+-- a place of the table
+pub place-within : {table : List ℕ} {p : Particulars} → Complete table p → {i j : ℕ} → i ≤ p .n → j ≤ p .m → (i * (p .m + 1) ≤ most (rangeOf 0) * (most (rangeOf 1) + 1)) × (i * (p .m + 1) + j < length table)
+place-within {p} hull h k =
+    let stations = le-trans h (hull .particulars .n-most) in
+    let waterlines : p .m + 1 ≤ most (rangeOf 1) + 1 = omega (arith, hull .particulars .m-most) in
+    (mul-le-mul stations waterlines, omega (arith, hull .complete, mul-le-mul-right (p .m + 1) h, add-mul (p .n) 1 (p .m + 1)))
 
+module _ {table : List ℕ} {p : Particulars} (hull : InRange table p) where
+  pub complete : Complete table p
+  complete = record { particulars = hull .particulars; complete = hull .complete }
+
+  -- the powers of a half-breadth
   pub half-breadth-le : (i j : ℕ) → halfBreadth table p i j ≤ most (rangeOf 5)
   unfolding halfBreadth
   half-breadth-le i j = hull .half-breadths (i * (p .m + 1) + j)

@@ -15,11 +15,12 @@ ghost use Rattle.hydrostatics.specs.Promise.{MakesRows};
 ghost use Rattle.ranges.specs.Fields.{rowRanges};
 ghost use Rattle.ranges.specs.Sizes.{rowWidth};
 ghost use Rattle.hydrostatics.specs.Row.{numbersOf};
-ghost use Rattle.hydrostatics.specs.Private.Hull.{InRange};
-ghost use Rattle.hydrostatics.specs.Private.Sums.{MakesSums};
+ghost use Rattle.hydrostatics.specs.Private.Hull.{Complete};
+ghost use Rattle.hydrostatics.specs.Private.Sums.{TriedSums};
 use ranges::Particulars;
 use ranges::Refusal;
-use table::Sums;
+use table::HullSums;
+use table::OUTSIDE;
 use table::fill_rows;
 use table::refused;
 
@@ -70,14 +71,24 @@ enum Engine {
     Sections,
 }
 
-// The five sums of every row of a hull in range, which are the same by either.
-fn sums_by(engine: Engine, half_breadths: &[u64], p: Particulars) -> [Sums; MOST_ROWS]
-    requires { ⌜ InRange (now «half_breadths») p ⌝ }
-    ensures { λ r. ⌜ MakesSums (now («half_breadths» .entry)) p r ⌝ }
+// The five sums of every row of a complete hull, which are the same by either; or that a half-breadth is out of range, which the
+// sweep over the waterplanes finds as it reads.
+fn sums_by(engine: Engine, half_breadths: &[u64], p: Particulars) -> HullSums
+    requires { ⌜ Complete (now «half_breadths») p ⌝ }
+    ensures { λ r. ⌜ TriedSums (now («half_breadths» .entry)) p r ⌝ }
 {
     match engine {
         Engine::Waterplanes => waterplanes::hull_sums(half_breadths, p),
-        Engine::Sections => sections::hull_sums(half_breadths, p),
+        Engine::Sections => {
+            if ranges::half_breadth_outside(half_breadths) < half_breadths.len() {
+                return OUTSIDE;
+            }
+            let sums = sections::hull_sums(half_breadths, p);
+            HullSums {
+                in_range: true,
+                sums,
+            }
+        }
     }
 }
 
@@ -97,11 +108,14 @@ fn make_by(engine: Engine, half_breadths: &[u64], p: Particulars, rows: &mut [u6
     if rows.len() < ROW_WIDTH * (m - 1) {
         return refused(Refusal::WRONG_SIZE, Refusal::ROW_TABLE);
     }
-    let outside = ranges::half_breadth_outside(half_breadths);
-    if outside < half_breadths.len() {
+    let hull = sums_by(engine, half_breadths, p);
+    if !hull.in_range {
+        // The first one out of range is looked for only where there is one.
+        let outside = ranges::half_breadth_outside(half_breadths);
         return refused(Refusal::OUT_OF_RANGE, Refusal::HALF_BREADTHS_AT + outside);
     }
-    fill_rows(p, sums_by(engine, half_breadths, p), rows)
+    let sums = hull.sums;
+    fill_rows(p, sums, rows)
 }
 
 // The rows of a hull into the lent table.

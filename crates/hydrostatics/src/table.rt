@@ -28,6 +28,12 @@ pub(crate) struct Sums {
     pub c: u64,
 }
 
+// What an engine makes of a hull: whether its half-breadths are in range, and where they are the sums of every row.
+pub(crate) struct HullSums {
+    pub in_range: bool,
+    pub sums: [Sums; MOST_ROWS],
+}
+
 // Row r belongs to waterline r + 2.
 pub(crate) const FIRST_WATERLINE: usize = 2;
 
@@ -38,6 +44,12 @@ pub(crate) const NO_SUMS: Sums = Sums {
     sx: 0,
     q: 0,
     c: 0,
+};
+
+// What an engine answers where a half-breadth is out of range.
+pub(crate) const OUTSIDE: HullSums = HullSums {
+    in_range: false,
+    sums: [NO_SUMS; MOST_ROWS],
 };
 
 // Both sides of a hull hold 2·s·d·S/24² mm³, and a cubic metre is 10⁹ mm³: s·d·S·density is so many times the displacement.

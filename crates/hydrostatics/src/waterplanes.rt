@@ -7,12 +7,14 @@ ghost use Rattle.ranges.specs.Sizes.{rowsOver};
 ghost use Rattle.simpson.specs.Multipliers.{multiplier};
 ghost use Rattle.hydrostatics.specs.Hull.{halfBreadth};
 ghost use Rattle.hydrostatics.specs.Row.{waterlineOf};
-ghost use Rattle.hydrostatics.specs.Private.Hull.{Filled, InRange};
-ghost use Rattle.hydrostatics.specs.Private.Sums.{noSums, MakesSums};
-ghost use Rattle.hydrostatics.specs.Private.Waterplanes.{Given, WaterlineOf, Kept, Small, sumsFrom};
+ghost use Rattle.hydrostatics.specs.Private.Hull.{Filled, Complete};
+ghost use Rattle.hydrostatics.specs.Private.Sums.{noSums, TriedSums};
+ghost use Rattle.hydrostatics.specs.Private.Waterplanes.{Given, GatheredOf, Small, sumsFrom};
 use crate::MOST_ROWS;
 use crate::table::FIRST_WATERLINE;
+use crate::table::HullSums;
 use crate::table::NO_SUMS;
+use crate::table::OUTSIDE;
 use crate::table::Sums;
 use ranges::MOST_STATIONS;
 use ranges::MOST_WATERLINES;
@@ -25,11 +27,10 @@ struct Waterline {
     pub c: u64,
 }
 
-// The same of every waterline.
-struct Waterplanes {
-    pub q: [u64; MOST_WATERLINES],
-    pub x: [u64; MOST_WATERLINES],
-    pub c: [u64; MOST_WATERLINES],
+// What a sweep over a waterline ends with.
+enum Gathered {
+    Whole(Waterline),
+    Outside,
 }
 
 // The multipliers of the stations over n intervals.
@@ -48,16 +49,16 @@ fn station_multipliers(n: usize) -> [u64; MOST_STATIONS]
 
 // The half-breadth at station i, waterline j: station by station from aft, each from the keel up.
 fn half_breadth_at(table: &[u64], p: Particulars, i: usize, j: usize) -> u64
-    requires { ⌜ (InRange (now table) p) × (i ≤ p .n) × (j ≤ p .m) ⌝ }
+    requires { ⌜ (Complete (now table) p) × (i ≤ p .n) × (j ≤ p .m) ⌝ }
     ensures { λ r. ⌜ r ≡ halfBreadth (now (table .entry)) p i j ⌝ }
 {
     table[i * (p.m + 1) + j]
 }
 
-// What waterline j contributes, in one sweep.
-fn waterline_sums(table: &[u64], u: &[u64; MOST_STATIONS], p: Particulars, j: usize) -> Waterline
+// What waterline j contributes, in one sweep that tries each half-breadth as it reads it.
+fn waterline_sums(table: &[u64], u: &[u64; MOST_STATIONS], p: Particulars, j: usize) -> Gathered
     requires { ⌜ (Given (now table) p (now u)) × (j ≤ p .m) ⌝ }
-    ensures { λ r. ⌜ WaterlineOf (now (table .entry)) p j r ⌝ }
+    ensures { λ r. ⌜ GatheredOf (now (table .entry)) p j r ⌝ }
 {
     let n = p.n;
     let mut q: u64 = 0;
@@ -66,37 +67,25 @@ fn waterline_sums(table: &[u64], u: &[u64; MOST_STATIONS], p: Particulars, j: us
     let mut i: usize = 0;
     while i <= n {
         let y = half_breadth_at(table, p, i, j);
+        if !ranges::whole_in_range(ranges::HALF_BREADTH, y) {
+            return Gathered::Outside;
+        }
         let uy = u[i] * y;
         q += uy;
         x += uy * i as u64;
         c += uy * (y * y);
         i += 1;
     }
-    Waterline { q, x, c }
-}
-
-// What every waterline contributes, each swept once.
-fn waterplane_sums(table: &[u64], u: &[u64; MOST_STATIONS], p: Particulars) -> Waterplanes
-    requires { ⌜ Given (now table) p (now u) ⌝ }
-    ensures { λ r. ⌜ Kept (now (table .entry)) p (r .q) (r .x) (r .c) ⌝ }
-{
-    let m = p.m;
-    let mut q = [0u64; MOST_WATERLINES];
-    let mut x = [0u64; MOST_WATERLINES];
-    let mut c = [0u64; MOST_WATERLINES];
-    let mut j: usize = 0;
-    while j <= m {
-        let line = waterline_sums(table, u, p, j);
-        q[j] = line.q;
-        x[j] = line.x;
-        c[j] = line.c;
-        j += 1;
-    }
-    Waterplanes { q, x, c }
+    Gathered::Whole(Waterline { q, x, c })
 }
 
 // The five sums of the row of waterline k, from what is kept of the waterlines 0..k.
-fn row_sums(q: &[u64; MOST_WATERLINES], x: &[u64; MOST_WATERLINES], c: &[u64; MOST_WATERLINES], k: usize) -> Sums
+fn row_sums(
+    q: &[u64; MOST_WATERLINES],
+    x: &[u64; MOST_WATERLINES],
+    c: &[u64; MOST_WATERLINES],
+    k: usize,
+) -> Sums
     requires { ⌜ Small k (now q) (now x) ⌝ }
     ensures { λ r. ⌜ r ≡ sumsFrom (now (q .entry)) (now (x .entry)) (now (c .entry)) k ⌝ }
 {
@@ -122,7 +111,12 @@ fn row_sums(q: &[u64; MOST_WATERLINES], x: &[u64; MOST_WATERLINES], c: &[u64; MO
 }
 
 // The five sums of every row up to waterline m.
-fn rows_sums(q: &[u64; MOST_WATERLINES], x: &[u64; MOST_WATERLINES], c: &[u64; MOST_WATERLINES], m: usize) -> [Sums; MOST_ROWS]
+fn sums_of_rows(
+    q: &[u64; MOST_WATERLINES],
+    x: &[u64; MOST_WATERLINES],
+    c: &[u64; MOST_WATERLINES],
+    m: usize,
+) -> [Sums; MOST_ROWS]
     requires { ⌜ Small m (now q) (now x) ⌝ }
     ensures { λ r. ⌜ Filled noSums (λ row. sumsFrom (now (q .entry)) (now (x .entry)) (now (c .entry)) (waterlineOf row)) (rowsOver m) r ⌝ }
 {
@@ -135,15 +129,31 @@ fn rows_sums(q: &[u64; MOST_WATERLINES], x: &[u64; MOST_WATERLINES], c: &[u64; M
     sums
 }
 
-// The five sums of every row of a hull in range.
-pub(crate) fn hull_sums(table: &[u64], p: Particulars) -> [Sums; MOST_ROWS]
-    requires { ⌜ InRange (now table) p ⌝ }
-    ensures { λ r. ⌜ MakesSums (now (table .entry)) p r ⌝ }
+// The five sums of every row of a complete hull, each waterline swept once; or that a half-breadth is out of range.
+pub(crate) fn hull_sums(table: &[u64], p: Particulars) -> HullSums
+    requires { ⌜ Complete (now table) p ⌝ }
+    ensures { λ r. ⌜ TriedSums (now (table .entry)) p r ⌝ }
 {
     let u = station_multipliers(p.n);
-    let planes = waterplane_sums(table, &u, p);
-    let q = planes.q;
-    let x = planes.x;
-    let c = planes.c;
-    rows_sums(&q, &x, &c, p.m)
+    let m = p.m;
+    let mut q = [0u64; MOST_WATERLINES];
+    let mut x = [0u64; MOST_WATERLINES];
+    let mut c = [0u64; MOST_WATERLINES];
+    let mut j: usize = 0;
+    while j <= m {
+        match waterline_sums(table, &u, p, j) {
+            Gathered::Outside => return OUTSIDE,
+            Gathered::Whole(line) => {
+                q[j] = line.q;
+                x[j] = line.x;
+                c[j] = line.c;
+            }
+        }
+        j += 1;
+    }
+    let sums = sums_of_rows(&q, &x, &c, m);
+    HullSums {
+        in_range: true,
+        sums,
+    }
 }

@@ -6,13 +6,15 @@
 --     not-within                            a whole number that is not so is outside
 --     within-size                           the same of the size of any number
 --     within-positive                       of a range from 0 on: each number is its own size
---     wholes-in-range                       of a table of whole numbers of one range: none is above it, at any place
+--     wholes-in-range, wholes-inside        of a table of whole numbers of one range: none is above it, at any place; and the other way
+--     whole-outside                         one that is not in it is outside
 --     half-breadths-in-range, particulars-in-range      the same as facts
 --     records-are                           what a count of whole records is
 -- Assumes nothing.
 use mathlib.Core.Path.{_≡_, refl, sym, _∙_}
 use mathlib.Core.Bool.{Bool, true, false, _&&_}
 use mathlib.Core.List.{List, [], _∷_, map}
+use mathlib.Core.Logic.{⊎-elim}
 use Prim.Native.Nat.{ℕ, zero, suc, _+_, _%_, _/_, _≤_, _<_}
 use native.Mathlib.Nat.{zero-add, add-zero, mod-one}
 use native.Mathlib.Omega.{arith}
@@ -23,7 +25,7 @@ use lib.ListN.{length, getD, List·getD-map, length-map}
 use Rattle.arithmetic.specs.Signed.{isNegative}
 use Rattle.arithmetic.specs.Choice.{if_then_else_}
 use Rattle.arithmetic.proofs.Choice.{chosen}
-use Rattle.arithmetic.proofs.Tests.{both, never, by-test}
+use Rattle.arithmetic.proofs.Tests.{both, never, by-test, less-or-not}
 use Rattle.ranges.specs.Fields.{Range, _to_, ±_, within, least, most, rangeOf, particulars, halfBreadth}
 use Rattle.ranges.specs.Limits.{limits}
 use Rattle.ranges.specs.Outside.{outsideFrom, firstOutside, numbersOf, badParticular}
@@ -130,6 +132,19 @@ wholes-in-range r table e =
     everywhere (most r) table (λ k h.
     let at = all-within (r ∷ []) (map pos table) (omega (arith, length-map table pos)) k (omega (arith, length-map table pos)) in
     within-whole r (getD table k 0) (rw (mod-one, List·getD-map pos table k 0) at at) .1)
+
+pub wholes-inside : (a b : ℕ) (table : List ℕ) → ((k : ℕ) → k < length table → (a ≤ getD table k 0) × (getD table k 0 ≤ b)) → firstOutside ((a to b) ∷ []) (map pos table) ≡ length table
+wholes-inside a b table h =
+    all-inside ((a to b) ∷ []) (map pos table) (λ k l. rw (mod-one, List·getD-map pos table k 0) (whole-within a b (getD table k 0) (h k (omega (arith, length-map table pos)))))
+    ∙ length-map table pos
+
+pub whole-outside : (r : Range) (table : List ℕ) (k : ℕ) → k < length table → within r (pos (getD table k 0)) ≡ false → firstOutside (r ∷ []) (map pos table) < length table
+whole-outside r table k h e =
+    ⊎-elim (λ less. less)
+    (λ none.
+    let at = all-within (r ∷ []) (map pos table) (omega (arith, length-map table pos)) k (omega (arith, length-map table pos)) in
+    never (sym e ∙ rw (mod-one, List·getD-map pos table k 0) at at))
+    (less-or-not (firstOutside (r ∷ []) (map pos table)) (length table))
 
 pub half-breadths-in-range : (table : List ℕ) → length table ≤ firstOutside halfBreadth (map pos table) → HalfBreadthsInRange table
 half-breadths-in-range = wholes-in-range (rangeOf 5)

@@ -1,12 +1,17 @@
 -- Each refusal is the first whose line holds; where none does, the hull is in range and its rows follow. Assumes nothing.
-use Prim.Native.Nat.{_+_, _≤_}
+use Prim.Native.Nat.{_+_, _≤_, _<_}
+use mathlib.Core.Path.{refl}
 use native.Mathlib.Omega.{arith}
+use borrow.Author.Needs.{needs}
+use borrow.Author.Tests.{not-true, not-false}
+use lib.ListN.{length}
 use Rattle.arithmetic.proofs.Products.{product-fits}
 use Rattle.ranges.specs.Fields.{rangeOf, most}
 use Rattle.hydrostatics.specs.Private.Hull.{InRange}
-use Rattle.hydrostatics.proofs.Answers.{particulars-told, hull-told, bad-particular, wrong-table, wrong-room, bad-half-breadth, rows-follow, refuses, makes}
+use Rattle.hydrostatics.specs.Private.Sums.{MakesSums}
+use Rattle.hydrostatics.proofs.Answers.{particulars-told, bad-particular, wrong-table, wrong-room, bad-half-breadth, rows-follow, refuses, makes}
 use Rattle.hydrostatics.proofs.SumsMade.{all-within, fills-hull}
-use borrow.Author.Needs.{needs}
+use Rattle.hydrostatics.proofs.Tried.{none-outside}
 use Rattle.hydrostatics.proofs.make_by.Statement.{statement}
 use Rattle.hydrostatics.proofs.make_by.Tie as tie
 
@@ -57,33 +62,39 @@ returns-3 c =
     let t = c .before .before .before .before in
     refuses (wrong-room _ _ _ (t .bad-particular .ensures) (c .before .before .before .if1 .left) (c .before .before .if2 .left) (c .before .if3 .taken)) (c .refused3 .ensures)
 
+sums-by-requires : tie.Need-sums-by-requires
+sums-by-requires c κs = record {
+  particulars = particulars-told (c .before .before .before .bad-particular .ensures) (c .before .before .if1 .left);
+  complete = c .before .if2 .left;
+}
+
 half-breadth-outside-requires : tie.Need-half-breadth-outside-requires
 half-breadth-outside-requires c κs = search needs
 
+-- the engine came upon one, so that the first one stands in the table
+stands : (c : tie.After-half-breadth-outside) → c .half-breadth-outside .result < length (c .before .before .before .before .before .before .before .before .before .before .args .half-breadths .now)
+stands c =
+    let told = c .before .before .before .sums-by .ensures .outside (not-true _ (c .before .if4 .taken)) in
+    omega (arith, c .half-breadth-outside .ensures, told)
+
 add-refused : tie.Need-add-refused
-add-refused c = search needs
+add-refused c = let there = stands c in search needs
 
 refused-requires-4 : tie.Need-refused-requires-4
 refused-requires-4 c κs = search needs
 
 returns-4 : tie.Need-returns-4
 returns-4 c =
-    let e = c .before .before .before in
-    refuses (bad-half-breadth _ _ _ (e .before .before .before .bad-particular .ensures) (e .before .before .if1 .left) (e .before .if2 .left) (e .if3 .left) (c .before .before .half-breadth-outside .ensures) (c .before .if4 .taken)) (c .refused4 .ensures)
+    let e = c .before .before .before .before .before in
+    refuses (bad-half-breadth _ _ _ (e .before .before .before .bad-particular .ensures) (e .before .before .if1 .left) (e .before .if2 .left) (e .if3 .left) (c .before .half-breadth-outside .ensures) (stands (c .before))) (c .refused4 .ensures)
 
--- the hull is in range where no test has refused it
-in-range : (c : tie.Else4) → let s = c .before .before .before .before .before .before .before .before .args in InRange (s .half-breadths .now) (s .p)
-in-range c =
-    let e = c .before .before in
-    let range = particulars-told (e .before .before .before .bad-particular .ensures) (e .before .before .if1 .left) in
-    hull-told range (e .before .if2 .left) (c .before .half-breadth-outside .ensures) (c .if4 .left)
-
-sums-by-requires : tie.Need-sums-by-requires
-sums-by-requires c κs = in-range c
+-- the engine came upon none
+made : (c : tie.Else4) → let s = c .before .before .before .before .before .before .before .before .before .args in InRange (s .half-breadths .now) (s .p) × MakesSums (s .half-breadths .now) (s .p) (c .before .before .sums-by .result .sums)
+made c = c .before .before .sums-by .ensures .made (not-false _ (c .if4 .left))
 
 fill-rows-requires : tie.Need-fill-rows-requires
 fill-rows-requires c κs =
-    let l = c .before .before in (all-within (c .before .sums-by .ensures) (in-range l), l .before .before .if3 .left)
+    let l = c .before .before in (all-within (made l .1) (made l .0), l .before .before .before .if3 .left)
 
 same-length : tie.Need-same-length
 same-length c = search needs
@@ -91,9 +102,9 @@ same-length c = search needs
 returns-5 : tie.Need-returns-5
 returns-5 c =
     let l = c .before .before .before .before .before in
-    let e = l .before .before in
-    makes (rows-follow _ _ _ (e .before .before .before .bad-particular .ensures) (e .before .before .if1 .left) (e .before .if2 .left) (e .if3 .left) (l .before .half-breadth-outside .ensures) (l .if4 .left))
-    (fills-hull (c .before .before .before .before .sums-by .ensures) (c .before .before .fill-rows .ensures))
+    let e = l .before .before .before in
+    makes (rows-follow _ _ _ (e .before .before .before .bad-particular .ensures) (e .before .before .if1 .left) (e .before .if2 .left) (e .if3 .left) refl (omega (arith, none-outside (made l .0))))
+    (fills-hull (made l .1) (c .before .before .fill-rows .ensures))
 
 pub make-by-spec : {M : Type 1} → statement M
 make-by-spec =
@@ -111,11 +122,11 @@ make-by-spec =
     mul-if3
     refused-requires-3
     returns-3
+    sums-by-requires
     half-breadth-outside-requires
     add-refused
     refused-requires-4
     returns-4
-    sums-by-requires
     fill-rows-requires
     same-length
     returns-5)

@@ -11,7 +11,12 @@ use Rattle.ranges.specs.declared.Particulars.{Particulars}
 pub record Filled {A : Type 0} (none : A) (f : ℕ → A) (count : ℕ) (l : List A) : Type 0 where
   pub at : (i : ℕ) → i < count → getD l i none ≡ f i
 
--- a hull in range, with a half-breadth for each station and waterline
+-- particulars in range, and a half-breadth for each station and waterline, whatever it is
+pub record Complete (table : List ℕ) (p : Particulars) : Type 0 where
+  pub particulars : ParticularsInRange p
+  pub complete : length table ≡ pointsOf (p .n) (p .m)
+
+-- and each of them in range
 pub record InRange (table : List ℕ) (p : Particulars) : Type 0 where
   pub particulars : ParticularsInRange p
   pub half-breadths : HalfBreadthsInRange table

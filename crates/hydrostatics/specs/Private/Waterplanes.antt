@@ -1,21 +1,26 @@
 -- What the code keeps of a hull's waterlines from row to row, and what its private functions promise one another. No definition of a row cites this file.
-use Prim.Native.Nat.{ℕ, _+_, _*_, _≤_}
+use Prim.Native.Nat.{ℕ, _+_, _*_, _≤_, _<_}
 use mathlib.Core.Path.{_≡_}
-use mathlib.Core.List.{List}
-use lib.ListN.{getD}
+use mathlib.Core.List.{List, map}
+use lib.IntN.{pos}
+use lib.ListN.{length, getD}
 use Rattle.ranges.specs.Fields.{rangeOf, most}
+use Rattle.ranges.specs.Fields as Fields
+use Rattle.ranges.specs.Outside.{firstOutside}
 use Rattle.ranges.specs.declared.Particulars.{Particulars}
 use Rattle.simpson.specs.Multipliers.{multiplier}
 use Rattle.simpson.specs.Curve.{curve}
 use Rattle.hydrostatics.specs.Hull.{halfBreadth, Q, C}
-use Rattle.hydrostatics.specs.Private.Hull.{Filled, InRange}
+use Rattle.hydrostatics.specs.Private.Hull.{Filled, Complete}
 use Rattle.hydrostatics.specs.Private.Sums.{mostQ}
 use Rattle.hydrostatics.specs.declared.table.Sums.{Sums}
 use Rattle.hydrostatics.specs.declared.waterplanes.Waterline.{Waterline}
+use Rattle.hydrostatics.specs.declared.waterplanes.Gathered.{Gathered}
+use Rattle.hydrostatics.specs.declared.waterplanes.Gathered.the-variants.{Whole, Outside}
 
--- a hull in range, and its station multipliers u
+-- a complete hull, and its station multipliers u
 pub record Given (table : List ℕ) (p : Particulars) (u : List ℕ) : Type 0 where
-  pub hull : InRange table p
+  pub hull : Complete table p
   pub multipliers : Filled 0 (multiplier (p .n)) (p .n + 1) u
 
 -- the sum of u·y·i at waterline j, beside those of u·y and of u·y³, which are Q and C
@@ -26,6 +31,15 @@ pub record WaterlineOf (table : List ℕ) (p : Particulars) (j : ℕ) (line : Wa
   pub q-is : line .q ≡ Q table p j
   pub x-is : line .x ≡ X table p j
   pub c-is : line .c ≡ C table p j
+
+-- the half-breadths of waterline j are in range
+abbrev pub LineInRange : List ℕ → Particulars → ℕ → Type 0
+LineInRange table p j = (i : ℕ) → i < p .n + 1 → halfBreadth table p i j ≤ most (rangeOf 5)
+
+-- what a sweep over waterline j ends with: what it contributes, or that a half-breadth of the table is out of range
+abbrev pub GatheredOf : List ℕ → Particulars → ℕ → Gathered → Type 0
+GatheredOf table p j (Whole line) = LineInRange table p j × WaterlineOf table p j line
+GatheredOf table p j Outside = firstOutside Fields.halfBreadth (map pos table) < length table
 
 -- the sums of every waterline of a hull
 pub record Kept (table : List ℕ) (p : Particulars) (q x c : List ℕ) : Type 0 where

@@ -8,8 +8,8 @@ use Rattle.hydrostatics.specs.Private.Sums.{noSums}
 use Rattle.hydrostatics.specs.Private.Waterplanes.{sumsFrom}
 use Rattle.hydrostatics.proofs.Filling.{Filling, filling-none, filling-more, filling-all}
 use Rattle.hydrostatics.proofs.Keeping.{small-below}
-use Rattle.hydrostatics.proofs.waterplanes.rows_sums.Statement.{statement}
-use Rattle.hydrostatics.proofs.waterplanes.rows_sums.Tie as tie
+use Rattle.hydrostatics.proofs.waterplanes.sums_of_rows.Statement.{statement}
+use Rattle.hydrostatics.proofs.waterplanes.sums_of_rows.Tie as tie
 
 abbrev Inv-loop : tie.InvT-loop
 Inv-loop q x c m sums₀ r₀ sums r = (r ≤ rowsOver m) × Filling noSums (λ r. sumsFrom q x c (waterlineOf r)) mostRows r sums
@@ -49,8 +49,8 @@ loop-again c =
 returns : tie.Need-returns Inv-loop μ-loop
 returns c = filling-all (c .before .loop .inv .1) (omega arith)
 
-pub rows-sums-spec : {M : Type 1} → statement M
-rows-sums-spec =
+pub sums-of-rows-spec : {M : Type 1} → statement M
+sums-of-rows-spec =
     tie.close
     (tie.spec
     Inv-loop
