@@ -1,4 +1,5 @@
 -- From what is kept of a hull to the sums of a row.
+--     five-same         five equal sums
 --     kept-small        how large what is kept is
 --     sums-are          what is made of it is the row's five
 --     small-below       what is small up to a waterline is so up to one below it
@@ -22,6 +23,9 @@ use Rattle.hydrostatics.specs.declared.table.Sums.{Sums}
 use Rattle.hydrostatics.proofs.Exchange.{S-is, Sz-is, Sx-is}
 use Rattle.hydrostatics.proofs.Limits.{Q-most, X-most}
 
+pub five-same : {a b c d e a′ b′ c′ d′ e′ : ℕ} → a ≡ a′ → b ≡ b′ → c ≡ c′ → d ≡ d′ → e ≡ e′ → _≡_ {A = Sums} (record { sum = a; sz = b; sx = c; q = d; c = e }) (record { sum = a′; sz = b′; sx = c′; q = d′; c = e′ })
+five-same f g h i j = rw (f, g, h, i, j)
+
 module _ {table : List ℕ} {p : Particulars} {q x c : List ℕ} (kept : Kept table p q x c) {k : ℕ} (h : k ≤ p .m) where
   q-at : (j : ℕ) → j ≤ k → getD q j 0 ≡ Q table p j
   q-at j l = kept .q-is .at j (omega arith)
@@ -38,10 +42,8 @@ module _ {table : List ℕ} {p : Particulars} {q x c : List ℕ} (kept : Kept ta
 
   pub sums-are : sumsFrom q x c k ≡ sumsAt table p k
   sums-are =
-      let sum : curve k (λ j. getD q j 0) ≡ S table p k = curve-same k _ _ q-at ∙ sym (S-is table p k) in
-      let sz : curve k (λ j. getD q j 0 * j) ≡ Sz table p k = curve-same k _ _ (λ j l. ap (λ y. y * j) (q-at j l)) ∙ sym (Sz-is table p k) in
-      let sx : curve k (λ j. getD x j 0) ≡ Sx table p k = curve-same k _ _ x-at ∙ sym (Sx-is table p k) in
-      rw (sum, sz, sx, q-at k (omega arith), kept .c-is .at k (omega arith))
+      five-same (curve-same k _ _ q-at ∙ sym (S-is table p k)) (curve-same k _ _ (λ j l. ap (λ y. y * j) (q-at j l)) ∙ sym (Sz-is table p k)) (curve-same k _ _ x-at ∙ sym (Sx-is table p k))
+      (q-at k (omega arith)) (kept .c-is .at k (omega arith))
 
 pub small-below : {q x : List ℕ} {m : ℕ} → Small m q x → {k : ℕ} → k ≤ m → Small k q x
 small-below small h = record {

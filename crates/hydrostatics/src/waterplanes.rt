@@ -101,13 +101,9 @@ fn row_sums(
         sx += v * x[j];
         j += 1;
     }
-    Sums {
-        sum,
-        sz,
-        sx,
-        q: q[k],
-        c: c[k],
-    }
+    let q = q[k];
+    let c = c[k];
+    Sums { sum, sz, sx, q, c }
 }
 
 // The five sums of every row up to waterline m.

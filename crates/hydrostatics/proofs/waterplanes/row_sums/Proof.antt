@@ -5,6 +5,7 @@ use native.Mathlib.Omega.{arith}
 use borrow.Author.Needs.{needs}
 use lib.ListN.{getD}
 use Rattle.simpson.proofs.Sweep.{Swept, swept-none, swept-more, swept-moment, swept-all}
+use Rattle.hydrostatics.proofs.Keeping.{five-same}
 use Rattle.hydrostatics.proofs.Sweep.{sum-most, sz-most, sx-most}
 use Rattle.hydrostatics.proofs.waterplanes.row_sums.Statement.{statement}
 use Rattle.hydrostatics.proofs.waterplanes.row_sums.Tie as tie
@@ -77,22 +78,22 @@ add-j c = omega arith
 loop-less : tie.Need-loop-less Inv-loop μ-loop
 loop-less c = omega arith
 
-mul-t19 : tie.Need-mul-t19 Inv-loop μ-loop
-mul-t19 c = omega arith
+mul-q : tie.Need-mul-q Inv-loop μ-loop
+mul-q c = omega arith
 
-element-copy-out-t22 : tie.Need-element-copy-out-t22 Inv-loop μ-loop
-element-copy-out-t22 c = omega arith
+element-copy-out-q : tie.Need-element-copy-out-q Inv-loop μ-loop
+element-copy-out-q c = omega arith
 
-mul-t23 : tie.Need-mul-t23 Inv-loop μ-loop
-mul-t23 c = omega arith
+mul-c : tie.Need-mul-c Inv-loop μ-loop
+mul-c c = omega arith
 
-element-copy-out-t26 : tie.Need-element-copy-out-t26 Inv-loop μ-loop
-element-copy-out-t26 c = omega arith
+element-copy-out-c : tie.Need-element-copy-out-c Inv-loop μ-loop
+element-copy-out-c c = omega arith
 
 returns : tie.Need-returns Inv-loop μ-loop
 returns c =
     let l = c .before .before .before .loop .inv in
-    rw (swept-all (l .0) (omega arith), swept-all (l .1) (omega arith), swept-all (l .2) (omega arith))
+    five-same (swept-all (l .0) (omega arith)) (swept-all (l .1) (omega arith)) (swept-all (l .2) (omega arith)) refl refl
 
 pub row-sums-spec : {M : Type 1} → statement M
 row-sums-spec =
@@ -115,8 +116,8 @@ row-sums-spec =
     add-j
     loop-less
     loop-again
-    mul-t19
-    element-copy-out-t22
-    mul-t23
-    element-copy-out-t26
+    mul-q
+    element-copy-out-q
+    mul-c
+    element-copy-out-c
     returns)
