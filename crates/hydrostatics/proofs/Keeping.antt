@@ -1,4 +1,5 @@
--- From what is kept of a hull to the sums of a row.
+-- From what is kept of a hull's waterlines to the sums of its rows.
+--     Kept              what each waterline contributes, at its number
 --     five-same         five equal sums
 --     kept-small        how large what is kept is
 --     sums-are          what is made of it is the row's five
@@ -7,7 +8,7 @@
 -- Assumes nothing.
 use mathlib.Core.Path.{_≡_, sym, ap, _∙_}
 use mathlib.Core.List.{List}
-use Prim.Native.Nat.{ℕ, _*_, _≤_}
+use Prim.Native.Nat.{ℕ, _+_, _*_, _≤_}
 use native.Mathlib.Omega.{arith}
 use lib.ListN.{getD}
 use Rattle.ranges.specs.Sizes.{rowsOver}
@@ -18,13 +19,18 @@ use Rattle.hydrostatics.specs.Hull.{S, Sz, Sx, Q, C}
 use Rattle.hydrostatics.specs.Row.{sumsAt, waterlineOf}
 use Rattle.hydrostatics.specs.Private.Hull.{Filled, InRange}
 use Rattle.hydrostatics.specs.Private.Sums.{noSums, MakesSums}
-use Rattle.hydrostatics.specs.Private.Waterplanes.{X, Kept, Small, sumsFrom}
+use Rattle.hydrostatics.specs.Private.Waterplanes.{X, Small, sumsFrom}
 use Rattle.hydrostatics.specs.declared.table.Sums.{Sums}
 use Rattle.hydrostatics.proofs.Exchange.{S-is, Sz-is, Sx-is}
 use Rattle.hydrostatics.proofs.Limits.{Q-most, X-most}
 
 pub five-same : {a b c d e a′ b′ c′ d′ e′ : ℕ} → a ≡ a′ → b ≡ b′ → c ≡ c′ → d ≡ d′ → e ≡ e′ → _≡_ {A = Sums} (record { sum = a; sz = b; sx = c; q = d; c = e }) (record { sum = a′; sz = b′; sx = c′; q = d′; c = e′ })
 five-same f g h i j = rw (f, g, h, i, j)
+
+pub record Kept (table : List ℕ) (p : Particulars) (q x c : List ℕ) : Type 0 where
+  pub q-is : Filled 0 (Q table p) (p .m + 1) q
+  pub x-is : Filled 0 (X table p) (p .m + 1) x
+  pub c-is : Filled 0 (C table p) (p .m + 1) c
 
 module _ {table : List ℕ} {p : Particulars} {q x c : List ℕ} (kept : Kept table p q x c) {k : ℕ} (h : k ≤ p .m) where
   q-at : (j : ℕ) → j ≤ k → getD q j 0 ≡ Q table p j

@@ -11,7 +11,7 @@ use Prim.Native.Nat.{ℕ, _+_, _*_, _/_, _%_, _≤_, _<_}
 use native.Mathlib.Nat.{mod-lt, div-add-mod', div-lt-iff-lt-mul}
 use native.Mathlib.Omega.{arith}
 use lib.IntN.{pos}
-use lib.ListN.{length, getD}
+use lib.ListN.{length}
 use Rattle.arithmetic.proofs.Tests.{never}
 use Rattle.ranges.specs.Fields.{rangeOf, most, within}
 use Rattle.ranges.specs.Fields as Fields
@@ -19,14 +19,14 @@ use Rattle.ranges.specs.Outside.{firstOutside}
 use Rattle.ranges.specs.declared.Particulars.{Particulars}
 use Rattle.ranges.proofs.Facts.{everywhere, wholes-inside, whole-outside}
 use Rattle.hydrostatics.specs.Hull.{halfBreadth}
-use Rattle.hydrostatics.specs.Private.Hull.{Complete, InRange}
+use Rattle.hydrostatics.specs.Private.Hull.{Complete, InRange, OneOutside}
 use Rattle.hydrostatics.specs.Private.Sums.{MakesSums, TriedSums}
 use Rattle.hydrostatics.specs.Private.Waterplanes.{LineInRange}
 use Rattle.hydrostatics.specs.declared.table.Sums.{Sums}
 use Rattle.hydrostatics.proofs.Limits.{place-within}
 
 module _ {table : List ℕ} {p : Particulars} (hull : Complete table p) where
-  pub line-outside : {i j y : ℕ} → i ≤ p .n → j ≤ p .m → y ≡ halfBreadth table p i j → within (rangeOf 5) (pos y) ≡ false → firstOutside Fields.halfBreadth (map pos table) < length table
+  pub line-outside : {i j y : ℕ} → i ≤ p .n → j ≤ p .m → y ≡ halfBreadth table p i j → within (rangeOf 5) (pos y) ≡ false → OneOutside table
   unfolding halfBreadth
   line-outside {i} {j} h k e f =
       whole-outside (rangeOf 5) table (i * (p .m + 1) + j) (place-within hull h k .1) (rw e at f)
@@ -51,5 +51,5 @@ module _ {table : List ℕ} {p : Particulars} {sums : List Sums} where
   pub tried-made : InRange table p → MakesSums table p sums → TriedSums table p (record { «in_range» = true; sums = sums })
   tried-made hull made = record { made = λ e. (hull, made); outside = λ e. never (sym e) }
 
-  pub tried-outside : firstOutside Fields.halfBreadth (map pos table) < length table → TriedSums table p (record { «in_range» = false; sums = sums })
+  pub tried-outside : OneOutside table → TriedSums table p (record { «in_range» = false; sums = sums })
   tried-outside out = record { made = λ e. never e; outside = λ e. out }

@@ -71,8 +71,8 @@ enum Engine {
     Sections,
 }
 
-// The five sums of every row of a complete hull, which are the same by either; or that a half-breadth is out of range, which the
-// sweep over the waterplanes finds as it reads.
+// The five sums of every row of a complete hull, the same by either; or that a half-breadth is out of range, which the waterplanes
+// find as they are swept.
 fn sums_by(engine: Engine, half_breadths: &[u64], p: Particulars) -> HullSums
     requires { ⌜ Complete (now «half_breadths») p ⌝ }
     ensures { λ r. ⌜ TriedSums (now («half_breadths» .entry)) p r ⌝ }

@@ -3,16 +3,14 @@
 use Prim.Native.Nat.{ℕ, _*_, _^_, _≤_, _<_}
 use mathlib.Core.Bool.{true, false}
 use mathlib.Core.Path.{_≡_}
-use mathlib.Core.List.{List, map}
-use lib.IntN.{pos}
-use lib.ListN.{length, getD}
-use Rattle.ranges.specs.Fields.{rangeOf, most, halfBreadth}
-use Rattle.ranges.specs.Outside.{firstOutside}
+use mathlib.Core.List.{List}
+use lib.ListN.{getD}
+use Rattle.ranges.specs.Fields.{rangeOf, most}
 use Rattle.ranges.specs.Private.InRange.{ParticularsInRange}
 use Rattle.ranges.specs.Sizes.{rowsOver}
 use Rattle.ranges.specs.declared.Particulars.{Particulars}
 use Rattle.hydrostatics.specs.Row.{sumsAt, waterlineOf}
-use Rattle.hydrostatics.specs.Private.Hull.{Filled, InRange}
+use Rattle.hydrostatics.specs.Private.Hull.{Filled, InRange, OneOutside}
 use Rattle.hydrostatics.specs.declared.table.HullSums.{HullSums}
 use Rattle.hydrostatics.specs.declared.table.Sums.{Sums}
 
@@ -26,7 +24,7 @@ pub record MakesSums (table : List ℕ) (p : Particulars) (sums : List Sums) : T
 -- what an engine makes of a complete hull: the sums where it is in range, or that a half-breadth is not
 pub record TriedSums (table : List ℕ) (p : Particulars) (tried : HullSums) : Type 0 where
   pub made : tried .«in_range» ≡ true → InRange table p × MakesSums table p (tried .sums)
-  pub outside : tried .«in_range» ≡ false → firstOutside halfBreadth (map pos table) < length table
+  pub outside : tried .«in_range» ≡ false → OneOutside table
 
 -- how large the sums are that a hull in range may have: of a waterline, by the rectangle around it, and of a row, by the box around the hull
 abbrev pub mostQ : ℕ

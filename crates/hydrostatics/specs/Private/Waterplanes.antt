@@ -1,17 +1,14 @@
 -- What the code keeps of a hull's waterlines from row to row, and what its private functions promise one another. No definition of a row cites this file.
 use Prim.Native.Nat.{ℕ, _+_, _*_, _≤_, _<_}
 use mathlib.Core.Path.{_≡_}
-use mathlib.Core.List.{List, map}
-use lib.IntN.{pos}
-use lib.ListN.{length, getD}
+use mathlib.Core.List.{List}
+use lib.ListN.{getD}
 use Rattle.ranges.specs.Fields.{rangeOf, most}
-use Rattle.ranges.specs.Fields as Fields
-use Rattle.ranges.specs.Outside.{firstOutside}
 use Rattle.ranges.specs.declared.Particulars.{Particulars}
 use Rattle.simpson.specs.Multipliers.{multiplier}
 use Rattle.simpson.specs.Curve.{curve}
 use Rattle.hydrostatics.specs.Hull.{halfBreadth, Q, C}
-use Rattle.hydrostatics.specs.Private.Hull.{Filled, Complete}
+use Rattle.hydrostatics.specs.Private.Hull.{Filled, Complete, OneOutside}
 use Rattle.hydrostatics.specs.Private.Sums.{mostQ}
 use Rattle.hydrostatics.specs.declared.table.Sums.{Sums}
 use Rattle.hydrostatics.specs.declared.waterplanes.Waterline.{Waterline}
@@ -27,25 +24,20 @@ pub record Given (table : List ℕ) (p : Particulars) (u : List ℕ) : Type 0 wh
 unfoldable pub X : List ℕ → Particulars → ℕ → ℕ
 X table p j = curve (p .n) (λ i. halfBreadth table p i j * i)
 
-pub record WaterlineOf (table : List ℕ) (p : Particulars) (j : ℕ) (line : Waterline) : Type 0 where
-  pub q-is : line .q ≡ Q table p j
-  pub x-is : line .x ≡ X table p j
-  pub c-is : line .c ≡ C table p j
-
 -- the half-breadths of waterline j are in range
 abbrev pub LineInRange : List ℕ → Particulars → ℕ → Type 0
 LineInRange table p j = (i : ℕ) → i < p .n + 1 → halfBreadth table p i j ≤ most (rangeOf 5)
 
--- what a sweep over waterline j ends with: what it contributes, or that a half-breadth of the table is out of range
-abbrev pub GatheredOf : List ℕ → Particulars → ℕ → Gathered → Type 0
-GatheredOf table p j (Whole line) = LineInRange table p j × WaterlineOf table p j line
-GatheredOf table p j Outside = firstOutside Fields.halfBreadth (map pos table) < length table
+pub record WaterlineOf (table : List ℕ) (p : Particulars) (j : ℕ) (line : Waterline) : Type 0 where
+  pub in-range : LineInRange table p j
+  pub q-is : line .q ≡ Q table p j
+  pub x-is : line .x ≡ X table p j
+  pub c-is : line .c ≡ C table p j
 
--- the sums of every waterline of a hull
-pub record Kept (table : List ℕ) (p : Particulars) (q x c : List ℕ) : Type 0 where
-  pub q-is : Filled 0 (Q table p) (p .m + 1) q
-  pub x-is : Filled 0 (X table p) (p .m + 1) x
-  pub c-is : Filled 0 (C table p) (p .m + 1) c
+-- what a sweep over waterline j ends with
+abbrev pub GatheredOf : List ℕ → Particulars → ℕ → Gathered → Type 0
+GatheredOf table p j (Whole line) = WaterlineOf table p j line
+GatheredOf table p j Outside = OneOutside table
 
 -- how large the sum of u·y·i over a waterline is
 abbrev pub mostX : ℕ

@@ -7,9 +7,9 @@ use borrow.Author.Needs.{needs}
 use Rattle.ranges.specs.Fields.{rangeOf, most}
 use Rattle.hydrostatics.specs.Hull.{Q, C}
 use Rattle.hydrostatics.specs.Private.Hull.{InRange}
-use Rattle.hydrostatics.specs.Private.Waterplanes.{X, LineInRange, Kept}
+use Rattle.hydrostatics.specs.Private.Waterplanes.{X, LineInRange}
 use Rattle.hydrostatics.proofs.Filling.{Filling, filling-none, filling-more, filling-all}
-use Rattle.hydrostatics.proofs.Keeping.{kept-small, kept-sums}
+use Rattle.hydrostatics.proofs.Keeping.{Kept, kept-small, kept-sums}
 use Rattle.hydrostatics.proofs.Tried.{lines-in-range, tried-made, tried-outside}
 use Rattle.hydrostatics.proofs.waterplanes.hull_sums.Statement.{statement}
 use Rattle.hydrostatics.proofs.waterplanes.hull_sums.Tie as tie
@@ -78,10 +78,10 @@ loop-again c =
     let inv = l .loop .inv in
     let gathered = rw (c .before .line .given .1) at (c .before .before .before .waterline-sums .ensures) in (
       omega arith,
-      below-more (LineInRange (s .table .now) (s .p)) (l .loop .j) (inv .1) (gathered .0),
-      filling-more (inv .2) (omega arith) (gathered .1 .q-is),
-      filling-more (inv .3) (omega arith) (gathered .1 .x-is),
-      filling-more (inv .4) (omega arith) (gathered .1 .c-is),
+      below-more (LineInRange (s .table .now) (s .p)) (l .loop .j) (inv .1) (gathered .in-range),
+      filling-more (inv .2) (omega arith) (gathered .q-is),
+      filling-more (inv .3) (omega arith) (gathered .x-is),
+      filling-more (inv .4) (omega arith) (gathered .c-is),
     )
 
 -- every waterline was swept

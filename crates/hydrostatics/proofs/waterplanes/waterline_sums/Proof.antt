@@ -113,14 +113,13 @@ returns-2 : tie.Need-returns-2 Inv-loop μ-loop
 returns-2 c =
     let l = c .before in
     let s = l .before .before .args in
-    let inv = l .loop .inv in (
-      λ i h. inv .0 i (omega arith),
-      record {
-        q-is = swept-all (inv .1) (omega arith) ∙ sym (Q-is (s .table .now) (s .p) (s .j));
-        x-is = swept-all (inv .2) (omega arith) ∙ sym (X-is (s .table .now) (s .p) (s .j));
-        c-is = swept-all (inv .3) (omega arith) ∙ sym (C-is (s .table .now) (s .p) (s .j));
-      },
-    )
+    let inv = l .loop .inv in
+    record {
+      in-range = λ i h. inv .0 i (omega arith);
+      q-is = swept-all (inv .1) (omega arith) ∙ sym (Q-is (s .table .now) (s .p) (s .j));
+      x-is = swept-all (inv .2) (omega arith) ∙ sym (X-is (s .table .now) (s .p) (s .j));
+      c-is = swept-all (inv .3) (omega arith) ∙ sym (C-is (s .table .now) (s .p) (s .j));
+    }
 
 pub waterline-sums-spec : {M : Type 1} → statement M
 waterline-sums-spec =
