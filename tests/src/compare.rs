@@ -1,6 +1,7 @@
 //! Compares the library with the own calculation on generated cases, and counts what came out of them.
 
 mod engines;
+mod half_breadths;
 mod history;
 mod hoppers;
 mod lengths;

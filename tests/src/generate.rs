@@ -254,7 +254,11 @@ fn rows(random: &mut Random) -> Call {
     for _ in 0..damages(random) {
         match random.below(7) {
             0 | 1 => damage_number(random, &mut particulars, &PARTICULARS),
-            2 | 3 => damage_number(random, &mut half_breadths, &[HALF_BREADTH]),
+            2 | 3 => {
+                for _ in 0..random.pick(&[1, 1, 2, 3, 9]) {
+                    damage_number(random, &mut half_breadths, &[HALF_BREADTH]);
+                }
+            }
             4 => damage_size(random, &mut half_breadths, 1),
             5 => damage_length(random, &mut particulars),
             _ => room = random.pick(&[0, exact - 1, exact - ROW.len(), room]),

@@ -1,6 +1,7 @@
 //! Counts of outcomes by call, and what the papers let come out that never did.
 
 use super::engines::ENGINES;
+use super::half_breadths::{half_breadths, HALF_BREADTHS};
 use super::hoppers::{refused_surface, surface, MIDDLE_LINES, REFUSED_SURFACES, SURFACES};
 use super::lengths::{lengths, LENGTHS, LENGTHS_BY_NUMBERS};
 use super::observation::Observation;
@@ -105,14 +106,15 @@ const CALLS_BY_READING: [usize; 2] = [REPORT, CONDITION];
 const CALLS_WITH_HULL: [usize; 4] = [REPORT, READ, WRITE, ROWS];
 const CALLS_WITH_TEXT: [usize; 2] = [REPORT, READ];
 const CALLS_WITH_PARTICULARS: [usize; 3] = [WRITE, ROWS, SECTIONS];
+const CALLS_FOR_ROWS: [usize; 2] = [ROWS, SECTIONS];
 const FILLINGS: [&str; 5] = ["empty", "slack", "at 98 per cent", "above it", "full"];
 const STATES: [&str; 4] = ["empty", "full", "with another mark than 1", "with something in an empty slot"];
 
 /// What came out of one call: 0 or the refusal's number, how the vessel lies and where it floats where that was found,
-/// what the other reading of KM made of it, what both engines made of its hull, how long that is, how many of the
-/// condition's tanks are filled how, in which states the tally was that a step was answered on, what editors left in the
-/// text that was read or in its token that is no number, what a hopper tank's surface is like or is refused for, and to
-/// which sides its middle line was moved.
+/// what the other reading of KM made of it, what both engines made of its hull, how long that is, which of its
+/// half-breadths it is refused for, how many of the condition's tanks are filled how, in which states the tally was that
+/// a step was answered on, what editors left in the text that was read or in its token that is no number, what a hopper
+/// tank's surface is like or is refused for, and to which sides its middle line was moved.
 pub struct Outcome {
     call: usize,
     refusal: usize,
@@ -122,6 +124,7 @@ pub struct Outcome {
     pub readings: [bool; READINGS.len()],
     pub engines: [bool; ENGINES.len()],
     lengths: [bool; LENGTHS.len()],
+    half_breadths: [bool; HALF_BREADTHS.len()],
     fillings: [u64; FILLINGS.len()],
     states: [bool; STATES.len()],
     in_text: [bool; IN_TEXTS.len()],
@@ -142,6 +145,7 @@ impl Outcome {
             readings: Default::default(),
             engines: Default::default(),
             lengths: Default::default(),
+            half_breadths: Default::default(),
             fillings: Default::default(),
             states: Default::default(),
             in_text: Default::default(),
@@ -159,6 +163,7 @@ impl Outcome {
             None => {}
         }
         outcome.lengths = lengths(call, outcome.refusal, outcome.place);
+        outcome.half_breadths = half_breadths(call, outcome.refusal, outcome.place);
         if seen.number == 0 {
             match call {
                 Call::Condition { tanks, .. } => {
@@ -226,6 +231,7 @@ pub struct Outcomes {
     readings: [[u64; READINGS.len()]; CALLS.len()],
     engines: [[u64; ENGINES.len()]; CALLS.len()],
     lengths: [[u64; LENGTHS.len()]; CALLS.len()],
+    half_breadths: [[u64; HALF_BREADTHS.len()]; CALLS.len()],
     /// Those of the places to be seen that were.
     places: BTreeSet<(usize, usize, usize)>,
     fillings: [u64; FILLINGS.len()],
@@ -252,6 +258,7 @@ impl Outcomes {
         count(&mut self.readings[call], outcome.readings);
         count(&mut self.engines[call], outcome.engines);
         count(&mut self.lengths[call], outcome.lengths);
+        count(&mut self.half_breadths[call], outcome.half_breadths);
         for (all, here) in self.fillings.iter_mut().zip(outcome.fillings) {
             *all += here;
         }
@@ -272,6 +279,7 @@ impl Outcomes {
         print_group(&READINGS, &self.readings);
         print_group(&ENGINES, &self.engines);
         print_group(&LENGTHS, &self.lengths);
+        print_group(&HALF_BREADTHS, &self.half_breadths);
         println!("tanks of conditions: {}", listed(&FILLINGS, &self.fillings));
         println!("tallies of answered steps: {}", listed(&STATES, &self.states));
         println!("texts read with {}", listed(&IN_TEXTS, &self.in_texts));
@@ -317,6 +325,9 @@ impl Outcomes {
         }
         for call in CALLS_WITH_PARTICULARS {
             missing.extend(never(CALLS[call], &LENGTHS[..LENGTHS_BY_NUMBERS], &self.lengths[call]));
+        }
+        for call in CALLS_FOR_ROWS {
+            missing.extend(never(CALLS[call], &HALF_BREADTHS, &self.half_breadths[call]));
         }
         missing.extend(never("tank", &FILLINGS, &self.fillings));
         missing.extend(never("tally", &STATES, &self.states));
