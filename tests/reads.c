@@ -1,5 +1,5 @@
-/* How often the calls that make rows read each half-breadth: a line for each call and hull. The largest file is on
- * standard input.
+/* How often the calls that make rows read each half-breadth of the file on standard input: a line for each call and
+ * hull. Fails unless `rugulosca_rows`, where it answers, reads each of them once.
  *
  * The half-breadths stand in pages that may not be read. Each instruction that reads one faults, is counted at the
  * number it asked for, and is let through by a single step, after which the pages are shut again. An instruction that
@@ -50,8 +50,8 @@ static void handle(int signal, void (*handler)(int, siginfo_t *, void *)) {
     assert(sigaction(signal, &action, NULL) == 0);
 }
 
-/* Makes the rows and says how many half-breadths were read how often. */
-static void count(const char *name, __typeof__(&rugulosca_rows) make, const char *hull, size_t length) {
+/* Makes the rows and says how many half-breadths were read how often; answers whether each was read once. */
+static int count(const char *name, __typeof__(&rugulosca_rows) make, const char *hull, size_t length) {
     size_t made = 0, place = 0, total = 0;
     static unsigned half_breadths_read[TIMES];
     uint64_t refusal;
@@ -72,12 +72,14 @@ static void count(const char *name, __typeof__(&rugulosca_rows) make, const char
     for (size_t times = 0; times < TIMES; times++)
         if (half_breadths_read[times]) printf(" %u read %zu times", half_breadths_read[times], times);
     printf("\n");
+    return half_breadths_read[1] == length;
 }
 
 int main(void) {
     static uint8_t text[RUGULOSCA_LONGEST_FILE];
     static int64_t items[RUGULOSCA_ITEM_ROOM], tanks[RUGULOSCA_TANK_ROOM];
     size_t text_length = fread(text, 1, sizeof text, stdin), place, length;
+    int each_once;
     half_breadths = mmap(NULL, bytes, PROT_READ | PROT_WRITE, MAP_PRIVATE | MAP_ANONYMOUS, -1, 0);
     assert(half_breadths != MAP_FAILED);
     assert(rugulosca_read(text, text_length, half_breadths, RUGULOSCA_HALF_BREADTH_ROOM, items, RUGULOSCA_ITEM_ROOM, tanks,
@@ -85,11 +87,12 @@ int main(void) {
     length = (summary[0] + 1) * (summary[1] + 1);
     handle(SIGSEGV, on_fault);
     handle(SIGTRAP, on_step);
-    count("rugulosca_rows", rugulosca_rows, "the file's hull", length);
+    each_once = count("rugulosca_rows", rugulosca_rows, "the file's hull", length);
     count("rugulosca_rows_by_sections", rugulosca_rows_by_sections, "the file's hull", length);
     half_breadths[length - 1] = OUT_OF_RANGE;
     count("rugulosca_rows", rugulosca_rows, "its last half-breadth out of range", length);
     half_breadths[summary[1]] = OUT_OF_RANGE;
     count("rugulosca_rows", rugulosca_rows, "the top of its first station too", length);
-    return 0;
+    if (!each_once) printf("rugulosca_rows does not read each half-breadth once\n");
+    return !each_once;
 }
