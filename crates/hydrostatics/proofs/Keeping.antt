@@ -1,6 +1,6 @@
 -- From what is kept of a hull's waterlines to the sums of its rows.
---     Kept              what each waterline contributes, at its number
 --     five-same         five equal sums
+--     Kept              what each waterline contributes, at its number
 --     kept-small        how large what is kept is
 --     sums-are          what is made of it is the row's five
 --     small-below       what is small up to a waterline is so up to one below it

@@ -1,7 +1,7 @@
 -- A hull that is tried while it is swept.
---     line-outside      a half-breadth that is out of range on its waterline is so in the table
---     lines-in-range    a complete hull whose waterlines are in range is in range
---     none-outside      and no number of its table is outside
+--     line-outside                  a half-breadth that is out of range on its waterline is so in the table
+--     lines-in-range                a complete hull whose waterlines are in range is in range
+--     none-outside                  and no number of its table is outside
 --     tried-made, tried-outside     what an engine answers, either way
 -- Assumes nothing.
 use mathlib.Core.Path.{_≡_, sym}
