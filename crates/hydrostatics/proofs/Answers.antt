@@ -23,7 +23,7 @@ use Rattle.ranges.proofs.Facts.{particulars-in-range, half-breadths-in-range}
 use Rattle.hydrostatics.specs.Promise.{paper, MakesRows}
 use Rattle.hydrostatics.specs.Row.{rowOf}
 use Rattle.hydrostatics.specs.Rows.{rowsUpTo, rowsBy, rowsOf}
-use Rattle.hydrostatics.specs.Private.Hull.{InRange}
+use Rattle.hydrostatics.specs.Private.Hull.{Complete, InRange}
 use Rattle.hydrostatics.specs.Private.Table.{FillsRows}
 use Rattle.hydrostatics.specs.declared.Rows.{Rows}
 
@@ -32,15 +32,13 @@ particulars-told {p} first a = particulars-in-range p (omega (arith, first))
 
 pub hull-told :
     {table : List ℕ} {p : Particulars} {place : ℕ}
-    → ParticularsInRange p
-    → length table ≡ pointsOf (p .n) (p .m)
+    → Complete table p
     → place ≡ firstOutside halfBreadth (map pos table)
     → length table ≤ place
     → InRange table p
-hull-told {table} range b second d = record {
-  particulars = range;
+hull-told {table} hull second d = record {
+  complete = hull;
   half-breadths = half-breadths-in-range table (omega (arith, second));
-  complete = b;
 }
 
 -- ---- the outcome that the tests tell

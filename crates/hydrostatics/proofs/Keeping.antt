@@ -41,7 +41,7 @@ module _ {table : List ℕ} {p : Particulars} {q x c : List ℕ} (kept : Kept ta
 
   pub kept-small : InRange table p → Small k q x
   kept-small hull = record {
-    k-most = omega (arith, hull .particulars .m-most);
+    k-most = omega (arith, hull .complete .particulars .m-most);
     q-most = λ j l. rw (q-at j l) (Q-most hull j);
     x-most = λ j l. rw (x-at j l) (X-most hull j);
   }

@@ -1,5 +1,5 @@
 -- How large the sums of a hull in range are.
---     place-within, complete     a half-breadth's place is in the table of a complete hull, which one in range is
+--     place-within               a half-breadth's place is in the table of a complete hull
 --     half-breadth-le            no half-breadth is above the greatest
 --     Q-le, C-le                 a waterline's sums, by the area of the rectangle around it
 --     area-most, moment-most     a station's, up to a waterline
@@ -48,12 +48,9 @@ pub place-within : {table : List ℕ} {p : Particulars} → Complete table p →
 place-within {p} hull h k =
     let stations = le-trans h (hull .particulars .n-most) in
     let waterlines : p .m + 1 ≤ most (rangeOf 1) + 1 = omega (arith, hull .particulars .m-most) in
-    (mul-le-mul stations waterlines, omega (arith, hull .complete, mul-le-mul-right (p .m + 1) h, add-mul (p .n) 1 (p .m + 1)))
+    (mul-le-mul stations waterlines, omega (arith, hull .points, mul-le-mul-right (p .m + 1) h, add-mul (p .n) 1 (p .m + 1)))
 
 module _ {table : List ℕ} {p : Particulars} (hull : InRange table p) where
-  pub complete : Complete table p
-  complete = record { particulars = hull .particulars; complete = hull .complete }
-
   -- the powers of a half-breadth
   pub half-breadth-le : (i j : ℕ) → halfBreadth table p i j ≤ most (rangeOf 5)
   unfolding halfBreadth
@@ -74,17 +71,17 @@ module _ {table : List ℕ} {p : Particulars} (hull : InRange table p) where
   module _ (i : ℕ) {k : ℕ} (h : k ≤ p .m) where
     pub area-most : areaAt table p k i ≤ mostArea
     unfolding areaAt
-    area-most = omega (arith, curve-le k (most (rangeOf 5)) (λ j. halfBreadth table p i j) (λ j l. half-breadth-le i j), hull .particulars .m-most)
+    area-most = omega (arith, curve-le k (most (rangeOf 5)) (λ j. halfBreadth table p i j) (λ j l. half-breadth-le i j), hull .complete .particulars .m-most)
 
     pub moment-most : momentAt table p k i ≤ most (rangeOf 1) * mostArea
     unfolding momentAt areaAt
     moment-most =
-        let waterlines : k ≤ most (rangeOf 1) = omega (arith, hull .particulars .m-most) in
+        let waterlines : k ≤ most (rangeOf 1) = omega (arith, hull .complete .particulars .m-most) in
         omega (arith, moment-le k (λ j. halfBreadth table p i j), mul-le-mul waterlines area-most)
 
   -- as numbers
   stations : p .n ≤ most (rangeOf 0)
-  stations = hull .particulars .n-most
+  stations = hull .complete .particulars .n-most
 
   pub Q-most : (j : ℕ) → Q table p j ≤ mostQ
   Q-most j = omega (arith, Q-le j, stations)

@@ -37,6 +37,6 @@ pub made-area : {table : List ℕ} {p : Particulars} {rows after : List ℕ} {co
 unfolding rowFrom
 made-area {table} {p} {rows} made r h =
     counted (rowsOf table p (length rows)) (made .answer-is) (λ numbers so e. (
-      answered-rows (length rows) so .hull .particulars .n-least,
+      answered-rows (length rows) so .hull .complete .particulars .n-least,
       ap (λ row. row .area) (made-rows made .1 r h),
     ))

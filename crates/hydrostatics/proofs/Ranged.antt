@@ -30,7 +30,7 @@ mean-le step moment sum last h =
 module _ {table : List ℕ} {p : Particulars} (hull : InRange table p) where
   -- the rectangle around a waterplane, and the box around the hull, by their greatest length
   rectangle-le : p .s * (most (rangeOf 5) * (24 * p .n)) ≤ most (rangeOf 5) * (24 * limits .longestHull)
-  rectangle-le = omega (arith, hull .particulars .length-most)
+  rectangle-le = omega (arith, hull .complete .particulars .length-most)
 
   pub waterplane-le : (j : ℕ) → p .s * Q table p j ≤ most (rangeOf 5) * (24 * limits .longestHull)
   waterplane-le j = le-trans (mul-le-mul-left (p .s) (Q-le hull j)) rectangle-le
@@ -41,22 +41,22 @@ module _ {table : List ℕ} {p : Particulars} (hull : InRange table p) where
       le-trans (mul-le-mul-left (p .s) (S-le hull k)) (rw (← mul-assoc (p .s) (most (rangeOf 5) * (24 * p .n)) (24 * k)) (mul-le-mul rectangle-le waterlines))
 
   d-most : p .d ≤ most (rangeOf 3)
-  d-most = hull .particulars .d-most
+  d-most = hull .complete .particulars .d-most
 
   module _ {k : ℕ} (low : waterlineOf 0 ≤ k) (high : k ≤ most (rangeOf 1)) where
     pub draft-between : Between (rowRange 0) (rowAt table p k .draft)
     unfolding rowFrom
-    draft-between = (omega (arith, mul-le-mul (hull .particulars .d-least) low), omega (arith, mul-le-mul d-most high))
+    draft-between = (omega (arith, mul-le-mul (hull .complete .particulars .d-least) low), omega (arith, mul-le-mul d-most high))
 
     pub displacement-le : rowAt table p k .displacement ≤ most (rowRange 1)
     unfolding rowFrom
     displacement-le =
         let turned : p .s * p .d * S table p k ≡ p .s * S table p k * p .d = mul-assoc (p .s) (p .d) (S table p k) ∙ ap (λ x. p .s * x) (mul-comm (p .d) (S table p k)) ∙ sym (mul-assoc (p .s) (S table p k) (p .d)) in
-        div-le-of-le-mul _ (rw turned (omega (arith, mul-le-mul (mul-le-mul (volume-le high) d-most) (hull .particulars .density-most))))
+        div-le-of-le-mul _ (rw turned (omega (arith, mul-le-mul (mul-le-mul (volume-le high) d-most) (hull .complete .particulars .density-most))))
 
     pub lcb-le : rowAt table p k .lcb ≤ most (rowRange 2)
     unfolding rowFrom
-    lcb-le = le-trans (mean-le (p .s) (Sx table p k) (S table p k) (p .n) (Sx-le table p k)) (omega (arith, mul-comm (p .n) (p .s), hull .particulars .length-most))
+    lcb-le = le-trans (mean-le (p .s) (Sx table p k) (S table p k) (p .n) (Sx-le table p k)) (omega (arith, mul-comm (p .n) (p .s), hull .complete .particulars .length-most))
 
     pub kb-le : rowAt table p k .kb ≤ most (rowRange 3)
     unfolding rowFrom

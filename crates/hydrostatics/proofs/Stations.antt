@@ -23,7 +23,7 @@ use Rattle.hydrostatics.specs.Private.Hull.{Filled, InRange}
 use Rattle.hydrostatics.specs.Private.Sections.{areaAt, momentAt, curveOf, momentOf, Summable, Balanced, Along}
 use Rattle.hydrostatics.proofs.Exchange.{S-along, Sz-along, Sx-along, Q-is, C-is}
 use Rattle.hydrostatics.proofs.Filling.{Filling, filling-all}
-use Rattle.hydrostatics.proofs.Limits.{place-within, complete, area-most, moment-most, Q-most, C-most, S-most, Sz-most, Sx-most}
+use Rattle.hydrostatics.proofs.Limits.{place-within, area-most, moment-most, Q-most, C-most, S-most, Sz-most, Sx-most}
 use Rattle.hydrostatics.proofs.Plain.{filled-curve, filled-moment, filled-summable, filled-balanced}
 
 -- ---- station i up to waterline k, `count` waterlines from its keel on
@@ -37,7 +37,7 @@ module _ {table : List ℕ} {p : Particulars} (hull : InRange table p) {i k : �
 
   long : count ≤ length (drop keel table)
   unfolding keel
-  long = omega (arith, length-drop (i * (p .m + 1)) table, place-within (complete hull) there high .1)
+  long = omega (arith, length-drop (i * (p .m + 1)) table, place-within (hull .complete) there high .1)
 
   up-to : (y : ℕ → ℕ) → curve (count - 1) y ≡ curve k y
   up-to y = let n : count - 1 ≡ k = omega arith in ap (λ n. curve n y) n
@@ -73,7 +73,7 @@ module _ {table : List ℕ} {p : Particulars} (hull : InRange table p) {i k : �
   pub station-balanced : Balanced (take count (drop (i * (p .m + 1)) table))
   unfolding keel
   station-balanced =
-      filled-balanced stands (omega arith) long (omega arith) (omega (arith, hull .particulars .m-most)) (omega (arith, moment-is, moment-most hull i high))
+      filled-balanced stands (omega arith) long (omega arith) (omega (arith, hull .complete .particulars .m-most)) (omega (arith, moment-is, moment-most hull i high))
 
 -- ---- along the stations
 pub all-along : {f : ℕ → ℕ} {i : ℕ} {l : List ℕ} → Filling 0 f (most (rangeOf 0) + 1) i l → {stations : ℕ} → i ≡ stations → Along f stations l

@@ -3,7 +3,7 @@
 --     up-to-same                   equal rows come to the same
 --     fills-hull                   so what is filled from an engine's sums is the hull's rows
 -- Assumes nothing.
-use mathlib.Core.Path.{_≡_, refl, ap, _∙_}
+use mathlib.Core.Path.{_≡_, refl, ap}
 use mathlib.Core.List.{List}
 use Prim.Native.Nat.{ℕ, zero, suc, _≤_, _<_}
 use native.Mathlib.Omega.{arith}
@@ -45,8 +45,8 @@ module _ {table : List ℕ} {p : Particulars} where
   module _ {sums : List Sums} (made : MakesSums table p sums) where
     pub all-within : InRange table p → AllWithin p sums
     all-within hull = record {
-      particulars = hull .particulars;
-      each = λ r h. rw (made .each .at r h) (sums-within hull (omega (arith, hull .particulars .m-most)));
+      particulars = hull .complete .particulars;
+      each = λ r h. rw (made .each .at r h) (sums-within hull (omega (arith, hull .complete .particulars .m-most)));
     }
 
     pub fills-hull : {rows after : List ℕ} {answer : Rows} → FillsRows (rowsFrom p sums) (rowsOver (p .m)) answer rows after → FillsRows (rowOf table p) (rowsOver (p .m)) answer rows after

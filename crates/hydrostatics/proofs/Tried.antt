@@ -34,13 +34,12 @@ module _ {table : List ℕ} {p : Particulars} (hull : Complete table p) where
   pub lines-in-range : ((j : ℕ) → j < p .m + 1 → LineInRange table p j) → InRange table p
   unfolding halfBreadth
   lines-in-range lines = record {
-    particulars = hull .particulars;
+    complete = hull;
     half-breadths =
         everywhere (most (rangeOf 5)) table (λ k h.
         let w = p .m + 1 in
-        let station : k / w < p .n + 1 = div-lt-iff-lt-mul (omega arith) .1 (omega (arith, hull .complete)) in
+        let station : k / w < p .n + 1 = div-lt-iff-lt-mul (omega arith) .1 (omega (arith, hull .points)) in
         rw (div-add-mod' k w) at (lines (k % w) (mod-lt k (omega arith)) (k / w) station));
-    complete = hull .complete;
   }
 
 pub none-outside : {table : List ℕ} {p : Particulars} → InRange table p → firstOutside Fields.halfBreadth (map pos table) ≡ length table

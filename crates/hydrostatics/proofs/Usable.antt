@@ -27,7 +27,7 @@ use Rattle.hydrostatics.specs.Promise.{tableAfter, MakesRows}
 use Rattle.hydrostatics.specs.Row.{waterlineOf, rowFrom, rowOf}
 use Rattle.hydrostatics.specs.Rows.{displacementBefore, rowsBy, rowsOf}
 use Rattle.hydrostatics.specs.Usable.{inRange, spaced, rises, metacentreFits, usableRow, usableUpTo}
-use Rattle.hydrostatics.specs.Private.Hull.{InRange}
+use Rattle.hydrostatics.specs.Private.Hull.{Complete, InRange}
 use Rattle.hydrostatics.specs.declared.Rows.the-variants.{Made}
 use Rattle.hydrostatics.proofs.Answers.{particulars-told, hull-told}
 use Rattle.hydrostatics.proofs.InRows.{none-outside}
@@ -53,8 +53,12 @@ answered-rows {table} {p} room e =
     let two = not-refused wrongSize halfBreadthTable (one .1) in
     let three = not-refused wrongSize rowTable (two .1) in
     let four = not-refused outOfRange (placeOfHalfBreadths + place) (three .1) in
+    let hull : Complete table p = record {
+      particulars = particulars-told refl (ltb-false bad (length particulars) (one .0));
+      points = eqb-true whole size (not-false (eqb whole size) (two .0));
+    } in
     record {
-      hull = hull-told (particulars-told refl (ltb-false bad (length particulars) (one .0))) (eqb-true whole size (not-false (eqb whole size) (two .0))) refl (ltb-false place whole (four .0));
+      hull = hull-told hull refl (ltb-false place whole (four .0));
       rows = passed (rowsOver (p .m)) (four .1);
     }
 
@@ -71,7 +75,7 @@ module _ {table : List ℕ} {p : Particulars} {numbers : List ℕ} (so : Answere
     ranged : inRange (numbers ++ beyond) r ≡ true
     unfolding inRange
     ranged =
-        let range = so .hull .particulars in
+        let range = so .hull .complete .particulars in
         let above = so .rows .rises r h in
         let ok = row-ranged (so .hull) {k = waterlineOf r} (omega arith) (omega arith) (omega arith) (so .rows .under r h) in
         rw (seven-in (held r h), none-outside ok)
@@ -79,7 +83,7 @@ module _ {table : List ℕ} {p : Particulars} {numbers : List ℕ} (so : Answere
     evenly : spaced (numbers ++ beyond) r ≡ true
     unfolding spaced rowFrom
     evenly =
-        let d : (least (rangeOf 3) ≤ p .d) × (p .d ≤ most (rangeOf 3)) = (so .hull .particulars .d-least, so .hull .particulars .d-most) in
+        let d : (least (rangeOf 3) ≤ p .d) × (p .d ≤ most (rangeOf 3)) = (so .hull .complete .particulars .d-least, so .hull .complete .particulars .d-most) in
         let half : p .d * 2 / 2 ≡ p .d = omega arith in
         rw (row-in (held 0 (omega arith)), row-in (held r h), half, eq-eqb (2 * p .d) (p .d * 2) (omega arith), whole-within (least (rangeOf 3)) (most (rangeOf 3)) (p .d) d, eq-eqb (p .d * waterlineOf r) (waterlineOf r * p .d) (mul-comm (p .d) (waterlineOf r)))
 
@@ -111,7 +115,7 @@ pub record Served (numbers : List ℕ) (count : ℕ) : Type 0 where
 pub served : (table : List ℕ) (p : Particulars) (room : ℕ) {numbers : List ℕ} → rowsOf table p room ≡ answered numbers → Served numbers (rowsOver (p .m))
 served table p room {numbers} e =
     let so : Answered table p numbers = answered-rows room e in
-    let range = so .hull .particulars in
+    let range = so .hull .complete .particulars in
     record {
       long = ap length (so .rows .numbers-are) ∙ numbers-length (rowOf table p) (rowsOver (p .m));
       least = omega arith;

@@ -65,7 +65,7 @@ returns-3 c =
 sums-by-requires : tie.Need-sums-by-requires
 sums-by-requires c κs = record {
   particulars = particulars-told (c .before .before .before .bad-particular .ensures) (c .before .before .if1 .left);
-  complete = c .before .if2 .left;
+  points = c .before .if2 .left;
 }
 
 half-breadth-outside-requires : tie.Need-half-breadth-outside-requires

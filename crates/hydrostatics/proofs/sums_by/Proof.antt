@@ -25,7 +25,7 @@ returns c = tried-outside (omega (arith, c .before .half-breadth-outside .ensure
 in-range : (c : tie.Else1) → let s = c .before .before .before .before .before .args in InRange (s .half-breadths .now) (s .p)
 in-range c =
     let given = c .before .before .before .before .before .pre in
-    hull-told (given .particulars) (given .complete) (c .before .half-breadth-outside .ensures) (c .if1 .left)
+    hull-told given (c .before .half-breadth-outside .ensures) (c .if1 .left)
 
 hull-sums-requires-2 : tie.Need-hull-sums-requires-2
 hull-sums-requires-2 c κs = in-range c

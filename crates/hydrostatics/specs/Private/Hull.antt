@@ -21,10 +21,9 @@ OneOutside table = firstOutside halfBreadth (map pos table) < length table
 -- particulars in range, and a half-breadth for each station and waterline, whatever it is
 pub record Complete (table : List ℕ) (p : Particulars) : Type 0 where
   pub particulars : ParticularsInRange p
-  pub complete : length table ≡ pointsOf (p .n) (p .m)
+  pub points : length table ≡ pointsOf (p .n) (p .m)
 
 -- and each of them in range
 pub record InRange (table : List ℕ) (p : Particulars) : Type 0 where
-  pub particulars : ParticularsInRange p
+  pub complete : Complete table p
   pub half-breadths : HalfBreadthsInRange table
-  pub complete : length table ≡ pointsOf (p .n) (p .m)

@@ -3,7 +3,7 @@ use Prim.Native.Nat.{_+_, _-_, _*_}
 use mathlib.Core.Path.{_∙_}
 use native.Mathlib.Omega.{arith}
 use borrow.Author.Needs.{needs}
-use Rattle.hydrostatics.proofs.Limits.{place-within, complete}
+use Rattle.hydrostatics.proofs.Limits.{place-within}
 use Rattle.hydrostatics.proofs.Stations.{station-area, station-moment, station-summable, station-balanced, station-long, station-last}
 use Rattle.hydrostatics.proofs.sections.section_at.Statement.{statement}
 use Rattle.hydrostatics.proofs.sections.section_at.Tie as tie
@@ -12,16 +12,16 @@ add-keel : tie.Need-add-keel
 add-keel c = search needs
 
 mul-keel : tie.Need-mul-keel
-mul-keel c = let given = c .before .before .pre in omega (arith, place-within (complete (given .0)) (given .1) (given .3))
+mul-keel c = let given = c .before .before .pre in omega (arith, place-within (given .0 .complete) (given .1) (given .3))
 
 add-station : tie.Need-add-station
-add-station c = let given = c .before .before .pre in omega (arith, place-within (complete (given .0)) (given .1) (given .3))
+add-station c = let given = c .before .before .pre in omega (arith, place-within (given .0 .complete) (given .1) (given .3))
 
 add-station-2 : tie.Need-add-station-2
-add-station-2 c = let given = c .before .before .pre in omega (arith, place-within (complete (given .0)) (given .1) (given .3))
+add-station-2 c = let given = c .before .before .pre in omega (arith, place-within (given .0 .complete) (given .1) (given .3))
 
 mul-station : tie.Need-mul-station
-mul-station c = let given = c .before .before .pre in omega (arith, place-within (complete (given .0)) (given .1) (given .3))
+mul-station c = let given = c .before .before .pre in omega (arith, place-within (given .0 .complete) (given .1) (given .3))
 
 sub-station : tie.Need-sub-station
 sub-station c = search needs
@@ -30,7 +30,7 @@ part-station-start : tie.Need-part-station-start
 part-station-start c = search needs
 
 part-station-end : tie.Need-part-station-end
-part-station-end c = let given = c .before .before .pre in omega (arith, place-within (complete (given .0)) (given .1) (given .3))
+part-station-end c = let given = c .before .before .pre in omega (arith, place-within (given .0 .complete) (given .1) (given .3))
 
 curve-sum-requires : tie.Need-curve-sum-requires
 curve-sum-requires c κs =
@@ -45,7 +45,7 @@ moment-sum-requires c κs =
     station-balanced (s .pre .0) (s .pre .1) (s .pre .2) (s .pre .3) (keel + s .args .k + 1 - keel) (omega arith)
 
 mul-half-breadth : tie.Need-mul-half-breadth
-mul-half-breadth c = let given = c .before .before .before .before .before .pre in omega (arith, given .0 .particulars .m-most)
+mul-half-breadth c = let given = c .before .before .before .before .before .pre in omega (arith, given .0 .complete .particulars .m-most)
 
 shared-slice-read-half-breadth : tie.Need-shared-slice-read-half-breadth
 shared-slice-read-half-breadth c =

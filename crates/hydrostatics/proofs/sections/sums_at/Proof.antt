@@ -17,7 +17,7 @@ sections-at-requires c κs = search needs
 
 -- how long and how deep the hull is
 sized : (c : tie.After-cubes) → let s = c .before .before .before .before .before .before .before .args in (least (rangeOf 0) ≤ s .p .n) × (s .p .n ≤ most (rangeOf 0)) × (s .k ≤ most (rangeOf 1))
-sized c = let given = c .before .before .before .before .before .before .before .pre in (given .0 .particulars .n-least, given .0 .particulars .n-most, omega arith)
+sized c = let given = c .before .before .before .before .before .before .before .pre in (given .0 .complete .particulars .n-least, given .0 .complete .particulars .n-most, omega arith)
 
 array-share-prefix-areas : tie.Need-array-share-prefix-areas
 array-share-prefix-areas c = search needs
