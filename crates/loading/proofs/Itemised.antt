@@ -1,6 +1,7 @@
 -- The totals of a table of items, by the tests of its call.
 --     wrong-size, bad-item         its two refusals
 --     items-fit                    a table of the right size with all numbers in range
+--     items-most                   the most that the items of such a table weigh, and their vertical moment
 --     totals-are                   what its items bring, added up, is the paper's totals
 --     totals-answered              so these are what is answered
 --     totals-numbered              a refusal has one of the paper's numbers
@@ -8,15 +9,15 @@
 -- Assumes nothing.
 use mathlib.Core.Path.{_≡_, refl, sym, ap, _∙_}
 use mathlib.Core.Bool.{true, false}
-use mathlib.Core.List.{List, []}
-use Prim.Native.Nat.{ℕ, _+_, _<_, _≤_}
-use native.Mathlib.Nat.{add-zero}
+use mathlib.Core.List.{List, [], _∷_}
+use Prim.Native.Nat.{ℕ, _+_, _*_, _<_, _≤_}
+use native.Mathlib.Nat.{add-zero, mul-le-mul-left}
 use native.Mathlib.Omega.{arith}
 use borrow.Author.Tests.{lt-ltb, le-ltb}
-use lib.IntN.{ℤ}
+use lib.IntN.{ℤ, natAbs}
 use lib.ListN.{length}
 use Rattle.arithmetic.proofs.Choice.{chosen}
-use Rattle.ranges.specs.Fields.{item}
+use Rattle.ranges.specs.Fields.{most, rangeOf, item, zRange}
 use Rattle.ranges.specs.Outcome.{answered, refused, Numbered}
 use Rattle.ranges.specs.Outside.{firstOutside}
 use Rattle.ranges.specs.Refusals.{outOfRange, wrongSize, placeOfItems, itemTable}
@@ -25,19 +26,42 @@ use Rattle.ranges.proofs.Facts.{records-are}
 use Rattle.ranges.proofs.Numbered.{numbered}
 use Rattle.ranges.proofs.Outcomes.{refused-not, refusal-same}
 use Rattle.ranges.proofs.Outside.{outside-le}
+use Rattle.ranges.proofs.Records.{parts-inside}
 use Rattle.loading.specs.Items.{totalsOfItems, itemTotals}
-use Rattle.loading.specs.Private.Aboard.{nothing, _with_, ofItem, ofTank, altogether, ItemsFit}
+use Rattle.loading.specs.Load.{weight, verticalMoment}
+use Rattle.loading.specs.Private.Aboard.{nothing, _with_, ofItem, ofTank, altogether, mostInItems, ItemsFit}
 use Rattle.loading.specs.Private.Steady.{totalsWith}
 use Rattle.loading.specs.Promise.{paperTotals}
 use Rattle.loading.specs.Records.{itemsOf, tanksOf, loadOf}
+use Rattle.loading.specs.Total.{total}
 use Rattle.loading.specs.declared.Aboard.{Aboard}
 use Rattle.loading.specs.declared.Totalled.{Totalled}
 use Rattle.loading.specs.declared.Totalled.the-variants.{Total, Refused}
 use Rattle.loading.proofs.Moments.{weight-is, longitudinal-is, vertical-is, transverse-is}
+use Rattle.loading.proofs.Stowage.{field-most}
 
 pub items-fit : (items : List ℤ) → wholeRecords itemWidth mostItems (length items) ≡ true → firstOutside item items ≡ length items → ItemsFit items
 items-fit items w e =
     let i = records-are itemWidth mostItems (length items) w in record { whole = i .0; few = omega arith; in-range = e }
+
+-- ---- how much: each item no more than its range, and as many as the table holds
+each-most : (items : List ℤ) → length items ≤ firstOutside item items → (itemWidth * total (λ i. i .kg) (itemsOf items) ≤ most (rangeOf 6) * length items) × (total (λ i. i .kg * i .z) (itemsOf items) ≤ most zRange * total (λ i. i .kg) (itemsOf items))
+unfolding itemsOf total
+each-most (kg ∷ x ∷ y ∷ z ∷ rest) inside =
+    let one : List ℤ = kg ∷ x ∷ y ∷ z ∷ [] in
+    let parts = parts-inside item one rest refl inside in
+    let at = field-most item one (omega (arith, parts .0)) in
+    let others = each-most rest (omega (arith, parts .1)) in
+    (omega (arith, others .0, at 0 (omega arith)), omega (arith, others .1, mul-le-mul-left (natAbs kg) (at 3 (omega arith))))
+each-most (kg ∷ x ∷ y ∷ []) inside = (omega arith, omega arith)
+each-most (kg ∷ x ∷ []) inside = (omega arith, omega arith)
+each-most (kg ∷ []) inside = (omega arith, omega arith)
+each-most [] inside = (omega arith, omega arith)
+
+pub items-most : (items : List ℤ) → ItemsFit items → (totalsOfItems items .weight ≤ mostInItems) × (totalsOfItems items .vertical ≤ most zRange * mostInItems)
+unfolding weight verticalMoment tanksOf total
+items-most items fits =
+    let each = each-most items (omega (arith, fits .in-range)) in (omega (arith, each .0, fits .few), omega (arith, each .0, each .1, fits .few))
 
 -- ---- the tests
 module _ (items : List ℤ) where

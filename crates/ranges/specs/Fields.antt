@@ -70,10 +70,17 @@ tank = 0 to 400_000 ∷ 1 to 400_000 ∷ xRange ∷ yRange ∷ zRange ∷ 1 to 1
 abbrev pub highestMetacentre : ℕ
 highestMetacentre = 100_000
 
+-- a ship's displacement, kg, and its KM, mm: of a row, and of an inclining test
+abbrev pub displacement : Range
+displacement = 1 to 17_600_000
+
+abbrev pub metacentre : Range
+metacentre = 0 to highestMetacentre
+
 -- "Ranges of a row": draft mm; displacement kg; LCB mm; KB mm; BM mm; KM mm; waterplane area mm²
 abbrev pub rowRanges : List Range
 rowRanges =
-    20 to 10_000 ∷ 1 to 17_600_000 ∷ 0 to 100_000 ∷ 0 to 10_000 ∷ 0 to 100_000 ∷ 0 to highestMetacentre ∷ 0 to 1_600_000_000 ∷ []
+    20 to 10_000 ∷ displacement ∷ 0 to 100_000 ∷ 0 to 10_000 ∷ 0 to 100_000 ∷ metacentre ∷ 0 to 1_600_000_000 ∷ []
 
 -- a hopper tank's free surface: "widths to port p and to starboard q, 0..1,500 mm", "equal intervals h of 50..1,000 mm"
 abbrev pub hopperWidth : List Range
@@ -82,10 +89,18 @@ hopperWidth = 0 to 1_500 ∷ []
 abbrev pub hopperInterval : Range
 hopperInterval = 50 to 1_000
 
+-- an inclining test: W and KM, "free surface 0..10,240,000,000 of the test, pendulum length 500..10,000 mm"
+abbrev pub inclining : List Range
+inclining = displacement ∷ metacentre ∷ 0 to 10_240_000_000 ∷ 500 to 10_000 ∷ []
+
+-- "shifts of weight 1..20,000 kg, distance 1..16,000 mm and deflection 1..2,000 mm"
+abbrev pub shift : List Range
+shift = 1 to 20_000 ∷ 1 to 16_000 ∷ 1 to 2_000 ∷ []
+
 -- all fields by number: those of the file in its order, 0..4 particulars, 5 a half-breadth, 6..9 an item, 10..17 a tank; then 18..24 a row;
--- 25 a width and 26 the interval of a hopper
+-- 25 a width and 26 the interval of a hopper; 27..30 an inclining test, 31..33 a shift
 abbrev pub fields : List Range
-fields = particulars ++ halfBreadth ++ item ++ tank ++ rowRanges ++ hopperWidth ++ (hopperInterval ∷ [])
+fields = particulars ++ halfBreadth ++ item ++ tank ++ rowRanges ++ hopperWidth ++ (hopperInterval ∷ []) ++ inclining ++ shift
 
 -- no number is in the range of a field that there is not
 abbrev pub rangeOf : ℕ → Range

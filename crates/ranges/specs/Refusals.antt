@@ -69,6 +69,14 @@ slotTaken = 16
 abbrev pub slotEmpty : ℕ
 slotEmpty = 17
 
+-- light weight 0 or less
+abbrev pub noLightWeight : ℕ
+noLightWeight = 20
+
+-- the light ship's moment is negative
+abbrev pub lightMomentNegative : ℕ
+lightMomentNegative = 21
+
 -- a tally handed in with a filled slot out of range or totals not its items'
 abbrev pub tallyUnsound : ℕ
 tallyUnsound = 22

@@ -3,7 +3,7 @@ use Prim.Native.Nat.{ℕ, _+_, _*_, _-_, _%_, _/_}
 use mathlib.Core.Bool.{Bool, _&&_}
 use lib.Dec.{leb, eqb}
 use lib.ListN.{length}
-use Rattle.ranges.specs.Fields.{rangeOf, least, most, item, tank, rowRanges}
+use Rattle.ranges.specs.Fields.{rangeOf, least, most, item, tank, rowRanges, shift}
 use Rattle.ranges.specs.Limits.{Limits, limits}
 
 -- "Text of at most" 32,768 "bytes."
@@ -17,7 +17,7 @@ mostItems = 32
 abbrev pub mostTanks : ℕ
 mostTanks = 16
 
--- how many numbers an item, a tank and a row have
+-- how many numbers an item, a tank, a row and a shift have
 abbrev pub itemWidth : ℕ
 itemWidth = length item
 
@@ -26,6 +26,9 @@ tankWidth = length tank
 
 abbrev pub rowWidth : ℕ
 rowWidth = length rowRanges
+
+abbrev pub shiftWidth : ℕ
+shiftWidth = length shift
 
 -- m − 1 rows, one for each waterline from number 2 up: 2 of the smallest hull, 19 of the largest
 abbrev pub rowsOver : ℕ → ℕ

@@ -5,7 +5,7 @@ ghost use lib.IntN.{pos};
 ghost use lib.ListN.{length, take, drop};
 ghost use Prim.Native.Nat.{_+_, _<_, _≤_};
 ghost use Rattle.ranges.specs.Private.Bounds.{boundsOf};
-ghost use Rattle.ranges.specs.Fields.{_to_, within, rangeOf, fields, halfBreadth, item, tank, rowRanges, hopperWidth};
+ghost use Rattle.ranges.specs.Fields.{_to_, within, rangeOf, fields, halfBreadth, item, tank, rowRanges, hopperWidth, inclining, shift};
 ghost use Rattle.ranges.specs.Limits.{limits};
 ghost use Rattle.ranges.specs.Outside.{fieldAfter, firstOutside, tooLong, badParticular};
 ghost use Rattle.ranges.specs.Sides.{sidesOf};
@@ -52,6 +52,10 @@ impl Refusal {
 
     pub const SLOT_EMPTY: u64 = 17;
 
+    pub const NO_LIGHT_WEIGHT: u64 = 20;
+
+    pub const LIGHT_MOMENT_NEGATIVE: u64 = 21;
+
     pub const TALLY_UNSOUND: u64 = 22;
 
     // Where the places of each table's numbers begin; the particulars' begin at 0.
@@ -87,7 +91,7 @@ pub struct Sides {
     pub starboard: u64,
 }
 
-// How many particulars there are, and how many numbers an item, a tank and a row have.
+// How many particulars there are, and how many numbers an item, a tank, a row, an inclining test and a shift have.
 pub const PARTICULAR_COUNT: usize = 5;
 
 pub const ITEM_WIDTH: usize = 4;
@@ -95,6 +99,10 @@ pub const ITEM_WIDTH: usize = 4;
 pub const TANK_WIDTH: usize = 8;
 
 pub const ROW_WIDTH: usize = 7;
+
+pub const INCLINING_WIDTH: usize = 4;
+
+pub const SHIFT_WIDTH: usize = 3;
 
 // The fields by number: the first of each section.
 pub const PARTICULARS: usize = 0;
@@ -118,7 +126,12 @@ pub const HOPPER_WIDTH: usize = ROW + ROW_WIDTH;
 
 pub const HOPPER_INTERVAL: usize = HOPPER_WIDTH + 1;
 
-// The most intervals of length, n, and of draft, m; the greatest length, n·s, and the highest KM of a row, in mm.
+// An inclining test, and a shift of weight in it.
+const INCLINING: usize = HOPPER_INTERVAL + 1;
+
+const SHIFT: usize = INCLINING + INCLINING_WIDTH;
+
+// The most intervals of length, n, and of draft, m; the greatest length, n·s, and the highest KM, in mm; the greatest displacement, in kg.
 pub const MOST_LENGTH_INTERVALS: u64 = 80;
 
 pub const MOST_DRAFT_INTERVALS: u64 = 20;
@@ -126,6 +139,8 @@ pub const MOST_DRAFT_INTERVALS: u64 = 20;
 pub const LONGEST_HULL: u64 = 100_000;
 
 pub const HIGHEST_METACENTRE: u64 = 100_000;
+
+const MOST_DISPLACEMENT: u64 = 17_600_000;
 
 // Where a weight may stand, in mm: the most x from station 0, y to either side, and z.
 const MOST_X: u64 = 100_000;
@@ -186,7 +201,7 @@ fn bounds_of(field: usize) -> Bounds
         16 => Bounds(1, 8_000, FROM_0), // breadth
         17 => Bounds(1, 1_500, FROM_0), // liquid density
         18 => Bounds(20, 10_000, FROM_0), // row: draft
-        19 => Bounds(1, 17_600_000, FROM_0), // displacement
+        19 => Bounds(1, MOST_DISPLACEMENT, FROM_0), // displacement
         20 => Bounds(0, 100_000, FROM_0), // LCB
         21 => Bounds(0, 10_000, FROM_0), // KB
         22 => Bounds(0, 100_000, FROM_0), // BM
@@ -194,6 +209,13 @@ fn bounds_of(field: usize) -> Bounds
         24 => Bounds(0, 1_600_000_000, FROM_0), // waterplane area
         25 => Bounds(0, 1_500, FROM_0), // hopper: width
         26 => Bounds(50, 1_000, FROM_0), // interval
+        27 => Bounds(1, MOST_DISPLACEMENT, FROM_0), // inclining test: displacement
+        28 => Bounds(0, HIGHEST_METACENTRE, FROM_0), // KM
+        29 => Bounds(0, 10_240_000_000, FROM_0), // free surface
+        30 => Bounds(500, 10_000, FROM_0), // pendulum length
+        31 => Bounds(1, 20_000, FROM_0), // shift: weight
+        32 => Bounds(1, 16_000, FROM_0), // distance
+        33 => Bounds(1, 2_000, FROM_0), // deflection
         _ => Bounds(1, 0, FROM_0),
     }
 }
@@ -285,6 +307,20 @@ pub fn hopper_width_outside(table: &[u64]) -> usize
     ensures { λ r. ⌜ r ≡ firstOutside hopperWidth (map pos (now (table .entry))) ⌝ }
 {
     whole_outside(table, HOPPER_WIDTH, 1)
+}
+
+// The place of the first number of an inclining test out of range, or how many there are.
+pub fn inclining_outside(numbers: &[u64]) -> usize
+    ensures { λ r. ⌜ r ≡ firstOutside inclining (map pos (now (numbers .entry))) ⌝ }
+{
+    whole_outside(numbers, INCLINING, INCLINING_WIDTH)
+}
+
+// The place of the first number of a table of shifts out of range, or the table's length.
+pub fn shift_outside(table: &[u64]) -> usize
+    ensures { λ r. ⌜ r ≡ firstOutside shift (map pos (now (table .entry))) ⌝ }
+{
+    whole_outside(table, SHIFT, SHIFT_WIDTH)
 }
 
 // The place of the first number of a table of rows out of range, or the table's length.
