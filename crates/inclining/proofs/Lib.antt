@@ -4,3 +4,7 @@ pub mod Shifts
 pub mod Lightening
 pub mod Trying
 pub mod Making
+pub mod Answered
+pub mod Between
+pub mod Unique
+pub mod Numbered

@@ -1,4 +1,5 @@
 -- The light ship's weight and moment, which are of either sign, told in whole numbers.
+--     none-left, some-left, size-is       a less b: nothing above 0 is left, or something, and how much
 --     aboard, added, deducted             what stands on either side of the two differences
 --     weight-is, moment-is                the weight and the moment are these
 --     no-weight, moment-below, found      the three outcomes
@@ -29,12 +30,12 @@ module _ (a b : ℕ) where
   under-is : a < b → pos a -ℤ pos b ≡ negℤ (pos (suc (b - suc a)))
   under-is h = let k : b - a ≡ suc (b - suc a) = omega arith in less-under a b h ∙ ap (λ k. negℤ (pos k)) k
 
-  none-left : a ≤ b → leZ (pos a -ℤ pos b) (pos 0) ≡ true
+  pub none-left : a ≤ b → leZ (pos a -ℤ pos b) (pos 0) ≡ true
   none-left h =
       by-test (ltb a b) (λ t. ap (λ v. leZ v (pos 0)) (under-is (ltb-true a b t)))
       (λ t. ap (λ v. leZ v (pos 0)) (less-over a b (ltb-false a b t)) ∙ le-leb (a - b) 0 (omega arith))
 
-  some-left : b < a → leZ (pos a -ℤ pos b) (pos 0) ≡ false
+  pub some-left : b < a → leZ (pos a -ℤ pos b) (pos 0) ≡ false
   some-left h = ap (λ v. leZ v (pos 0)) (less-over a b (omega arith)) ∙ lt-leb (a - b) 0 (omega arith)
 
   below : a < b → isNegative (pos a -ℤ pos b) ≡ true
@@ -43,7 +44,7 @@ module _ (a b : ℕ) where
   not-below : b ≤ a → isNegative (pos a -ℤ pos b) ≡ false
   not-below h = ap isNegative (less-over a b h)
 
-  size-is : b ≤ a → natAbs (pos a -ℤ pos b) ≡ a - b
+  pub size-is : b ≤ a → natAbs (pos a -ℤ pos b) ≡ a - b
   size-is h = ap natAbs (less-over a b h)
 
 -- ---- the light ship

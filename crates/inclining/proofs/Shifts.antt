@@ -4,7 +4,7 @@
 --     Every, each-in-range                          what holds of each of them: its numbers are in range
 --     heeling-one, heeling-in-range                 what they come to is in range, of one and of all
 --     Heeled, heeled-none, heeled-more, heeled-all  the walk that adds them up
---     gm-one                                        a shift's own GM
+--     gm-one, own-length, own-at                    a shift's own GM, how many there are, and each by its number
 --     Left, left-none, left-more, left-all          the walk that leaves each one's GM
 -- Assumes nothing.
 use mathlib.Core.Path.{_≡_, refl, sym, ap, ap₂, subst, _∙_}
@@ -161,6 +161,23 @@ pub own-length : (test : Test) (s : List ℕ) → length (ownGMs test (shiftsOf 
 unfolding ownGMs
 own-length test s = length-map (shiftsOf s) (λ one. measuredGM test (one ∷ [])) ∙ shift-count s
 
+-- those of the shifts from one on
+own-rest : (test : Test) (s : List ℕ) (i : ℕ) → shiftWidth * i ≤ length s → drop i (ownGMs test (shiftsOf s)) ≡ ownGMs test (shiftsOf (drop (shiftWidth * i) s))
+unfolding ownGMs shiftsOf
+own-rest test s zero h = refl
+own-rest test (weight ∷ distance ∷ deflection ∷ rest) (suc i) h =
+    let on : shiftWidth * suc i ≡ suc (suc (suc (shiftWidth * i))) = omega arith in
+    own-rest test rest i (omega arith) ∙ ap (λ k. ownGMs test (shiftsOf (drop k (weight ∷ distance ∷ deflection ∷ rest)))) (sym on)
+own-rest test (weight ∷ distance ∷ []) (suc i) h = absurd (omega arith)
+own-rest test (weight ∷ []) (suc i) h = absurd (omega arith)
+own-rest test [] (suc i) h = absurd (omega arith)
+
+pub own-at : (test : Test) (s : List ℕ) (i : ℕ) → i < length s / shiftWidth → getD (ownGMs test (shiftsOf s)) i 0 ≡ measuredGM test (shiftAt s (shiftWidth * i) ∷ [])
+unfolding ownGMs
+own-at test s i h =
+    ap (λ l. getD l 0 0)
+    (sym (drop-step (ownGMs test (shiftsOf s)) i 0 (omega (arith, own-length test s))) ∙ own-rest test s i (omega arith) ∙ ap (ownGMs test) (shifts-next s (shiftWidth * i) (omega arith)))
+
 -- leaving them in a table: it is filled so far, and beyond that as it was
 module _ (test : Test) (s was : List ℕ) where
   abbrev own : List ℕ
@@ -171,11 +188,10 @@ module _ (test : Test) (s was : List ℕ) where
     pub rest : Every ShiftInRange (shiftsOf (drop (shiftWidth * i) s))
     pub as-long : length gms ≡ length was
     pub left-is : gms ≡ take i own ++ drop i was
-    pub own-rest : drop i own ≡ ownGMs test (shiftsOf (drop (shiftWidth * i) s))
 
   module _ (so : ShiftsInRange s) where
     pub left-none : Left was 0
-    left-none = record { in-table = omega arith; rest = each-in-range s (omega (arith, so .in-range)); as-long = refl; left-is = refl; own-rest = refl }
+    left-none = record { in-table = omega arith; rest = each-in-range s (omega (arith, so .in-range)); as-long = refl; left-is = refl }
 
     module _ (room : length s / shiftWidth ≤ length was) {gms : List ℕ} {i : ℕ} (w : Left gms i) where
       module _ (more : i < length s / shiftWidth) where
@@ -191,18 +207,9 @@ module _ (test : Test) (s was : List ℕ) where
         on : shiftWidth * i + shiftWidth ≡ shiftWidth * (i + 1)
         on = omega arith
 
-        -- the next GM, and those that follow it
-        split : getD own i 0 ∷ drop (i + 1) own ≡ measuredGM test (shiftAt s (shiftWidth * i) ∷ []) ∷ ownGMs test (shiftsOf (drop (shiftWidth * (i + 1)) s))
-        unfolding ownGMs
-        split =
-            sym (drop-step own i 0 (omega (arith, own-length test s)))
-            ∙ w .own-rest
-            ∙ ap (ownGMs test) (shifts-next s (shiftWidth * i) whole-there)
-            ∙ ap (λ k. measuredGM test (shiftAt s (shiftWidth * i) ∷ []) ∷ ownGMs test (shiftsOf (drop k s))) on
-
         pub left-more : {v : ℕ} → v ≡ gmBy test (heelingOf (shiftAt s (shiftWidth * i))) → Left (set gms i v) (i + 1)
         left-more {v} e =
-            let next : v ≡ getD own i 0 = e ∙ gm-one test (shiftAt s (shiftWidth * i)) ∙ sym (ap (λ l. getD l 0 0) split) in
+            let next : v ≡ getD own i 0 = e ∙ gm-one test (shiftAt s (shiftWidth * i)) ∙ sym (own-at test s i more) in
             record {
               in-table = omega arith;
               rest = subst (λ k. Every ShiftInRange (shiftsOf (drop k s))) on (there .1);
@@ -211,7 +218,6 @@ module _ (test : Test) (s was : List ℕ) where
                   ap (λ l. set l i v) (w .left-is)
                   ∙ store-next (take i own) was i v (length-take-le i own (omega (arith, own-length test s))) (omega arith)
                   ∙ ap (λ l. l ++ drop (i + 1) was) (ap (λ k. take i own ++ (k ∷ [])) next ∙ sym (take-step own i 0 (omega (arith, own-length test s))));
-              own-rest = ap (drop 1) split;
             }
 
       pub left-all : i ≡ length s / shiftWidth → gms ≡ laidOver own was

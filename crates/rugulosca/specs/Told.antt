@@ -5,8 +5,11 @@ use mathlib.Core.List.{List, [], _∷_}
 use mathlib.Core.Path.{_≡_}
 use lib.Ieee.{Float}
 use lib.IntN.{ℤ}
+use lib.ListN.{getD}
 use Rattle.hoppers.specs.declared.FreeSurface.{FreeSurface}
 use Rattle.hydrostatics.specs.declared.Figures.{Figures}
+use Rattle.inclining.specs.declared.LightShip.{LightShip}
+use Rattle.inclining.specs.declared.Test.{Test}
 use Rattle.loading.specs.declared.Condition.{Condition}
 use Rattle.loading.specs.declared.Heel.{Heel}
 use Rattle.loading.specs.declared.Heel.the-variants.{Unstable, Upright, Heeled, Beyond}
@@ -51,6 +54,13 @@ figureNumbers f = f .draft ∷ f .displacement ∷ f .lcb ∷ f .kb ∷ f .bm �
 -- a free surface: its inertia and its moment
 abbrev pub surfaceNumbers : FreeSurface → List ℕ
 surfaceNumbers s = s .inertia ∷ s .moment ∷ []
+
+-- an inclining test of four numbers; and GM as measured, the light ship's weight, vertical moment and KG
+abbrev pub testOf : List ℕ → Test
+testOf four = record { weight = getD four 0 0; km = getD four 1 0; «free_surface» = getD four 2 0; pendulum = getD four 3 0 }
+
+abbrev pub lightShipNumbers : LightShip → List ℕ
+lightShipNumbers s = s .«measured_gm» ∷ s .weight ∷ s .«vertical_moment» ∷ s .vcg ∷ []
 
 -- how the vessel lies: 0 unstable, 1 upright, 2 heeled, 3 beyond
 abbrev pub lie : Heel → ℕ

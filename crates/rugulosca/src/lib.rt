@@ -3,6 +3,7 @@
 mod conditions;
 mod files;
 mod hulls;
+mod inclinings;
 mod sheets;
 mod surfaces;
 mod tallies;

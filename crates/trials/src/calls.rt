@@ -2,6 +2,7 @@
 use crate::data;
 use crate::data::Call;
 use crate::data::Kind;
+use crate::inclinings;
 use crate::say;
 use crate::surfaces;
 use crate::tallies;
@@ -10,6 +11,8 @@ use crate::tallies;
 const FEWEST_TALLIES: u64 = 40;
 
 const FEWEST_HOPPERS: u64 = 52;
+
+const FEWEST_INCLININGS: u64 = 52;
 
 // Room for a case, and for its answer.
 const LONGEST: usize = 16_384;
@@ -21,6 +24,11 @@ pub(crate) fn try_all() {
         Call::Hopper,
         FEWEST_HOPPERS,
         b"hopper surfaces that differ ",
+    );
+    try_call(
+        Call::Inclining,
+        FEWEST_INCLININGS,
+        b"inclining tests that differ ",
     );
 }
 
@@ -70,5 +78,6 @@ fn is_answered(call: Call, text: &[u8], answer: &[u8]) -> bool {
     match call {
         Call::Tally => tallies::is_answered(text, answer),
         Call::Hopper => surfaces::is_answered(text, answer),
+        Call::Inclining => inclinings::is_answered(text, answer),
     }
 }

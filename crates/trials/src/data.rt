@@ -14,10 +14,11 @@ const LONGEST_NAME: usize = 21;
 pub(crate) enum Call {
     Tally,
     Hopper,
+    Inclining,
 }
 
 // What a file holds: the offsets of NNN.txt and the sheet of NNN.out, or of straight-line-NNN.txt and straight-line-NNN.out where KM is read
-// so; what is given to a call and its answer, tally-NNN.in and tally-NNN.out, hopper-NNN.in and hopper-NNN.out.
+// so; what is given to a call and its answer, tally-NNN.in and tally-NNN.out, hopper-NNN.in and hopper-NNN.out, inclining-NNN.in and inclining-NNN.out.
 pub(crate) enum Kind {
     Offsets(Reading),
     Sheet(Reading),
@@ -80,6 +81,7 @@ fn open_of(call: Call, i: u64, end: &[u8]) -> i32
     match call {
         Call::Tally => open_named(b"tally-", i, end),
         Call::Hopper => open_named(b"hopper-", i, end),
+        Call::Inclining => open_named(b"inclining-", i, end),
     }
 }
 

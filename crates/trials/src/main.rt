@@ -5,9 +5,11 @@ mod curves;
 mod data;
 mod files;
 mod hulls;
+mod inclinings;
 mod places;
 mod say;
 mod surfaces;
+mod tables;
 mod tallies;
 
 fn main() {

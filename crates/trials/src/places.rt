@@ -1,4 +1,5 @@
 // Places in a text. What stands at a place gives the place after it; where something else stands there, that is NOWHERE, at which nothing stands.
+ghost use Prim.Native.Nat.{_≤_};
 use numerals::Numeral;
 use ranges::Refusal;
 
@@ -7,6 +8,11 @@ pub(crate) const NOWHERE: usize = usize::MAX;
 
 // The most bytes of a number: a minus and nineteen digits.
 const MOST_PRINTED: usize = 20;
+
+const TEN: usize = 10;
+
+// No digit is put behind a whole number that is greater.
+const GREAT: usize = 100_000_000_000_000_000;
 
 // A number of a text, and the place after it.
 pub(crate) struct Number {
@@ -61,19 +67,46 @@ pub(crate) fn number_after(text: &[u8], at: usize) -> Number {
     number_at(text, after(text, at, b" "))
 }
 
-// The whole number at a place: one below 0 is none.
-pub(crate) fn whole_at(text: &[u8], at: usize) -> Whole {
-    let number = number_at(text, at);
-    if arithmetic::is_negative(number.value) {
+// The number of a digit, or ten where a byte is none.
+fn digit_of(byte: u8) -> usize
+    ensures { λ r. ⌜ r ≤ 10 ⌝ }
+{
+    if byte < b'0' {
+        return TEN;
+    }
+    if b'9' < byte {
+        return TEN;
+    }
+    (byte - b'0') as usize
+}
+
+// The digits read so far from a place on, up to the next place; none are no number.
+fn read_to(value: usize, at: usize, next: usize) -> Whole {
+    if next == at {
         return Whole {
             value: 0,
             next: NOWHERE,
         };
     }
-    Whole {
-        value: arithmetic::magnitude(number.value) as usize,
-        next: number.next,
+    Whole { value, next }
+}
+
+// The whole number at a place. It may have more digits than an offset file's; one that is too great is none.
+pub(crate) fn whole_at(text: &[u8], at: usize) -> Whole {
+    let mut value: usize = 0;
+    let mut next = at;
+    while next < text.len() {
+        let digit = digit_of(text[next]);
+        if digit == TEN {
+            return read_to(value, at, next);
+        }
+        if GREAT < value {
+            return read_to(value, at, at);
+        }
+        value = TEN * value + digit;
+        next += 1;
     }
+    read_to(value, at, next)
 }
 
 // The whole number after a space.

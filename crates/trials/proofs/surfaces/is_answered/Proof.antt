@@ -6,8 +6,8 @@ use borrow.Author.Needs.{needs}
 use Rattle.trials.proofs.surfaces.is_answered.Statement.{statement}
 use Rattle.trials.proofs.surfaces.is_answered.Tie as tie
 
-widths-at-requires : tie.Need-widths-at-requires
-widths-at-requires c κs = search needs
+wholes-at-requires : tie.Need-wholes-at-requires
+wholes-at-requires c κs = search needs
 
 slice-aggregate-after : tie.Need-slice-aggregate-after
 slice-aggregate-after c = search needs
@@ -15,8 +15,8 @@ slice-aggregate-after c = search needs
 after-requires : tie.Need-after-requires
 after-requires c κs = search needs
 
-widths-at-requires-2 : tie.Need-widths-at-requires-2
-widths-at-requires-2 c κs = search needs
+wholes-at-requires-2 : tie.Need-wholes-at-requires-2
+wholes-at-requires-2 c κs = search needs
 
 slice-aggregate-after-2 : tie.Need-slice-aggregate-after-2
 slice-aggregate-after-2 c = search needs
@@ -64,10 +64,10 @@ pub is-answered-spec : {M : Type 1} → statement M
 is-answered-spec =
     tie.close
     (tie.spec
-    widths-at-requires
+    wholes-at-requires
     slice-aggregate-after
     after-requires
-    widths-at-requires-2
+    wholes-at-requires-2
     slice-aggregate-after-2
     after-requires-2
     whole-at-requires

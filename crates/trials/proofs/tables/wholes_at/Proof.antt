@@ -1,10 +1,10 @@
--- No more widths are read than there is room for. Assumes nothing.
+-- No more numbers are read than there is room for. Assumes nothing.
 use Prim.Native.Nat.{_≤_, _-_}
 use native.Mathlib.Omega.{arith}
 use borrow.Author.Needs.{needs}
 use lib.ListN.{length, length-set}
-use Rattle.trials.proofs.surfaces.widths_at.Statement.{statement}
-use Rattle.trials.proofs.surfaces.widths_at.Tie as tie
+use Rattle.trials.proofs.tables.wholes_at.Statement.{statement}
+use Rattle.trials.proofs.tables.wholes_at.Tie as tie
 
 abbrev Inv-loop : tie.InvT-loop
 Inv-loop text at numbers₀ count next₀ i₀ numbers next i = (i ≤ count) × (count ≤ length numbers)
@@ -42,8 +42,8 @@ loop-again c = (omega arith, omega (arith, length-set (c .before .before .loop .
 returns-2 : tie.Need-returns-2 Inv-loop μ-loop
 returns-2 c = omega arith
 
-pub widths-at-spec : {M : Type 1} → statement M
-widths-at-spec =
+pub wholes-at-spec : {M : Type 1} → statement M
+wholes-at-spec =
     tie.close
     (tie.spec
     Inv-loop
