@@ -6,5 +6,7 @@ pub mod Trying
 pub mod Making
 pub mod Answered
 pub mod Between
+pub mod Height
 pub mod Unique
+pub mod Order
 pub mod Numbered

@@ -1,5 +1,5 @@
 -- The light ship: the ship as it lay at the test, less what is to be taken off, with what is to be put on.
-use Prim.Native.Nat.{ℕ}
+use Prim.Native.Nat.{ℕ, _*_}
 use lib.IntN.{ℤ, pos, natAbs, _+ℤ_, _-ℤ_, _*ℤ_}
 use lib.Signed.{leZ}
 use Rattle.arithmetic.specs.Choice.{if_then_else_}
@@ -7,6 +7,7 @@ use Rattle.arithmetic.specs.Rounding.{roundedUp}
 use Rattle.arithmetic.specs.Signed.{isNegative}
 use Rattle.ranges.specs.Outcome.{Outcome, answered, refused}
 use Rattle.ranges.specs.Refusals.{noLightWeight, lightMomentNegative}
+use Rattle.loading.specs.Fraction.{Fraction, SignedFraction}
 use Rattle.loading.specs.declared.Totals.{Totals}
 use Rattle.inclining.specs.declared.LightShip.{LightShip}
 use Rattle.inclining.specs.declared.Test.{Test}
@@ -14,6 +15,15 @@ use Rattle.inclining.specs.declared.Test.{Test}
 -- "The vertical moment is W·(KM − GM) less free surface": of either sign, since GM may be above KM
 unfoldable pub verticalMoment : Test → ℕ → ℤ
 verticalMoment test gm = pos (test .weight) *ℤ (pos (test .km) -ℤ pos gm) -ℤ pos (test .«free_surface»)
+
+-- The light ship's moment by a GM that is not rounded: W·(KM − a/b), less free surface, less what is taken off, with what is put on; all times b, over b.
+abbrev pub unroundedMoment : Test → Totals → Totals → Fraction → SignedFraction
+unroundedMoment test off on gm = record {
+  top =
+      pos (test .weight) *ℤ (pos (test .km * gm .bottom) -ℤ pos (gm .top))
+      +ℤ pos (gm .bottom) *ℤ (pos (on .vertical) -ℤ pos (off .vertical) -ℤ pos (test .«free_surface»));
+  bottom = gm .bottom;
+}
 
 -- by the totals of the items "to take off and to put on", and GM
 module _ (test : Test) (off on : Totals) (gm : ℕ) where
