@@ -88,7 +88,13 @@ abbrev pub paper : Answer → Outcome LightShip
 paper (Found ship) = answered ship
 paper (Refused r) = refused (r .number) (r .place)
 
--- the light ship, and, "in a lent table, each shift's own GM": places beyond the last shift stay as they were, and all do after a refusal
+-- of what a test comes to, the light ship; and "in a lent table, each shift's own GM": beyond the last shift it stays as it was, and all of it after a refusal
+abbrev pub shipOf : Outcome Inclined → Outcome LightShip
+shipOf = answerWith (λ i. i .light)
+
+abbrev pub tableAfter : Outcome Inclined → List ℕ → List ℕ
+tableAfter = leftWith (λ i. i .gms)
+
 pub record MakesLightShip (test : Test) (shifts : List ℕ) (off on : List ℤ) (gms gmsAfter : List ℕ) (answer : Answer) : Type 0 where
-  pub answer-is : paper answer ≡ answerWith (λ i. i .light) (inclinedOf test shifts off on (length gms))
-  pub left : gmsAfter ≡ leftWith (λ i. i .gms) (inclinedOf test shifts off on (length gms)) gms
+  pub answer-is : paper answer ≡ shipOf (inclinedOf test shifts off on (length gms))
+  pub left : gmsAfter ≡ tableAfter (inclinedOf test shifts off on (length gms)) gms

@@ -1,6 +1,6 @@
 -- The number that a call returns tells an answer from a refusal.
 --     apart     so it is of every outcome whose refusals have these numbers
---     report-apart, read-apart, write-apart, rows-apart, display-apart, surface-apart, condition-apart     and so of each call, by what it promises
+--     report-apart, read-apart, write-apart, rows-apart, display-apart, surface-apart, light-ship-apart, condition-apart     and so of each call, by what it promises
 --     load-apart, discharge-apart, shift-apart, aboard-apart                                the running tally's too
 -- Assumes nothing.
 use Prim.Native.Nat.{ℕ}
@@ -24,6 +24,9 @@ use Rattle.hydrostatics.specs.Promise.{rowCount, countOf}
 use Rattle.hydrostatics.specs.Rows.{rowsOf}
 use Rattle.hydrostatics.specs.declared.Row.{Row}
 use Rattle.hydrostatics.proofs.Numbered.{rows-numbered, display-numbered}
+use Rattle.inclining.specs.Inclining.{shipOf, inclinedOf}
+use Rattle.inclining.specs.declared.Test.{Test}
+use Rattle.inclining.proofs.Numbered.{inclined-numbered}
 use Rattle.loading.specs.Condition.{conditionBy}
 use Rattle.loading.specs.declared.Reading.{Reading}
 use Rattle.loading.proofs.Numbered.{condition-numbered}
@@ -36,7 +39,7 @@ use Rattle.tally.proofs.Numbered as Tally
 use Rattle.report.specs.Promise.{reportBy}
 use Rattle.report.proofs.Numbered.{report-numbered}
 use Rattle.rugulosca.specs.Panel.{Kept, keptOf}
-use Rattle.rugulosca.specs.Told.{numberOf, Tells, Apart, summaryNumbers, figureNumbers, surfaceNumbers, wholesOf}
+use Rattle.rugulosca.specs.Told.{numberOf, Tells, Apart, summaryNumbers, figureNumbers, surfaceNumbers, lightShipNumbers, wholesOf}
 use Rattle.rugulosca.proofs.Telling.{told-apart}
 
 pub apart : {A B : Type 0} {value : A → B} {o : Outcome A} {was left : B} {place placeLeft number : ℕ} → Numbered o → Tells value o was left place placeLeft number → Apart o number
@@ -71,6 +74,10 @@ module _ {place placeLeft number : ℕ} where
 
   pub surface-apart : (port starboard : List ℕ) (h density : ℕ) {was left : List ℕ} → Tells surfaceNumbers (surfaceOf port starboard h density) was left place placeLeft number → Apart (surfaceOf port starboard h density) number
   surface-apart port starboard h density t = apart (surface-numbered port starboard h density) t
+
+  pub light-ship-apart : (test : Test) (shifts : List ℕ) (off on : List ℤ) (room : ℕ) {was left : List ℕ}
+      → Tells lightShipNumbers (shipOf (inclinedOf test shifts off on room)) was left place placeLeft number → Apart (shipOf (inclinedOf test shifts off on room)) number
+  light-ship-apart test shifts off on room t = apart (with-numbered (λ i. i .light) _ (inclined-numbered test shifts off on room)) t
 
   pub condition-apart : (reading : Reading) (items tanks : List ℤ) (rows : List ℕ) {was left : List ℕ}
       → Tells wholesOf (conditionBy reading items tanks rows) was left place placeLeft number → Apart (conditionBy reading items tanks rows) number

@@ -5,7 +5,7 @@
 --     tells-unique  one outcome is told in one way
 --     same-values, same-tangent    equal outcomes leave the same
 --     tells-as, condition-as       what is told of an outcome is told of any that is equal to it
---     rows-at, written-at    the promises beneath, at particulars that are equal
+--     rows-at, written-at, ship-at    the promises beneath, at particulars and tests that are equal
 -- Assumes nothing.
 use Prim.Native.Nat.{ℕ}
 use mathlib.Core.Path.{_≡_, refl, ap, subst}
@@ -18,6 +18,9 @@ use Rattle.ranges.specs.Outcome.{Outcome, answered, refused, Numbered}
 use Rattle.ranges.specs.declared.Particulars.{Particulars}
 use Rattle.hydrostatics.specs.Promise.{MakesRows}
 use Rattle.hydrostatics.specs.declared.Rows.{Rows}
+use Rattle.inclining.specs.Inclining.{MakesLightShip}
+use Rattle.inclining.specs.declared.Answer.{Answer}
+use Rattle.inclining.specs.declared.Test.{Test}
 use Rattle.loading.specs.declared.Condition.{Condition}
 use Rattle.writer.specs.Writer.{Writes}
 use Rattle.writer.specs.declared.Written.{Written}
@@ -58,3 +61,6 @@ rows-at {table} {rows} {after} {answer} e makes = subst (λ p. MakesRows table p
 
 pub written-at : {p q : Particulars} {h : List ℕ} {i t : List ℤ} {room left : List ℕ} {answer : Written} → p ≡ q → Writes p h i t room left answer → Writes q h i t room left answer
 written-at {h} {i} {t} {room} {left} {answer} e writes = subst (λ p. Writes p h i t room left answer) e writes
+
+pub ship-at : {t u : Test} {shifts : List ℕ} {off on : List ℤ} {gms after : List ℕ} {answer : Answer} → t ≡ u → MakesLightShip t shifts off on gms after answer → MakesLightShip u shifts off on gms after answer
+ship-at {shifts} {off} {on} {gms} {after} {answer} e makes = subst (λ t. MakesLightShip t shifts off on gms after answer) e makes

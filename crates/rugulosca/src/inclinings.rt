@@ -1,8 +1,7 @@
 // The light ship of an inclining test.
 ghost use mathlib.Core.Path.{_≡_};
 ghost use lib.ListN.{length};
-ghost use Rattle.inclining.specs.Inclining.{inclinedOf};
-ghost use Rattle.ranges.specs.Outcome.{answerWith, leftWith};
+ghost use Rattle.inclining.specs.Inclining.{inclinedOf, shipOf, tableAfter};
 ghost use Rattle.rugulosca.specs.Told.{Tells, testOf, lightShipNumbers};
 use crate::ANSWERED;
 use inclining::Answer;
@@ -35,8 +34,8 @@ pub extern "C" fn rugulosca_light_ship(
     light_ship: &mut [u64; LIGHT_SHIP_COUNT],
     place: &mut usize,
 ) -> u64
-    ensures { λ r. ⌜ Tells lightShipNumbers (answerWith (λ i. i .light) (inclinedOf (testOf (now (test .entry))) (now (shifts .entry)) (now (off .entry)) (now (on .entry)) (length (now (gms .entry))))) (now («light_ship» .entry)) (now («light_ship» .exit)) (now (place .entry)) (now (place .exit)) r ⌝ }
-    ensures { λ _. ⌜ now (gms .exit) ≡ leftWith (λ i. i .gms) (inclinedOf (testOf (now (test .entry))) (now (shifts .entry)) (now (off .entry)) (now (on .entry)) (length (now (gms .entry)))) (now (gms .entry)) ⌝ }
+    ensures { λ r. ⌜ Tells lightShipNumbers (shipOf (inclinedOf (testOf (now (test .entry))) (now (shifts .entry)) (now (off .entry)) (now (on .entry)) (length (now (gms .entry))))) (now («light_ship» .entry)) (now («light_ship» .exit)) (now (place .entry)) (now (place .exit)) r ⌝ }
+    ensures { λ _. ⌜ now (gms .exit) ≡ tableAfter (inclinedOf (testOf (now (test .entry))) (now (shifts .entry)) (now (off .entry)) (now (on .entry)) (length (now (gms .entry)))) (now (gms .entry)) ⌝ }
 {
     match inclining::light_ship(test_of(test), shifts, off, on, gms) {
         Answer::Found(ship) => {
