@@ -24,15 +24,16 @@ extern "C" {
 /* The most bytes of a file that is read. */
 enum { RUGULOSCA_LONGEST_FILE = 32768 };
 
-/* Room that is never too short: for a sheet, for the text of a file that is written, for the numbers of a file, and for
- * the rows of a hull. */
+/* Room that is never too short: for a sheet, for the text of a file that is written, for the numbers of a file, for the
+ * rows of a hull, and for the GMs of an inclining test. */
 enum {
     RUGULOSCA_LONGEST_SHEET = 3173,
     RUGULOSCA_LONGEST_TEXT = 10202,
     RUGULOSCA_HALF_BREADTH_ROOM = 1701,
     RUGULOSCA_ITEM_ROOM = 128,
     RUGULOSCA_TANK_ROOM = 128,
-    RUGULOSCA_ROW_ROOM = 133
+    RUGULOSCA_ROW_ROOM = 133,
+    RUGULOSCA_GM_ROOM = 12
 };
 
 /* The place of a number out of range (4), outside the reader: 0 to 4 a particular, and the others from these on. A hull
@@ -115,6 +116,22 @@ uint64_t rugulosca_hopper_surface(const uint64_t *port, size_t port_length,
                                   const uint64_t *starboard, size_t starboard_length,
                                   uint64_t interval, uint64_t density,
                                   uint64_t surface[2], size_t *place);
+
+/* The light ship by an inclining test. `test`: W, 1 to 17,600,000 kg, KM, 0 to 100,000 mm, and the free surface, 0 to
+ * 10,240,000,000 kg mm, of the test, and the pendulum's length, 500 to 10,000 mm. `shifts`: 2 to 12, three numbers each:
+ * weight, 1 to 20,000 kg, distance, 1 to 16,000 mm, and deflection, 1 to 2,000 mm. `off` and `on`: the items to take off
+ * and to put on, 0 to 32 each, as a condition has them. `gms`: each shift's own GM, mm, rounded down; what stands beyond
+ * the shifts stays. `light_ship`: the measured GM, mm, rounded down, which may be above KM, the light weight, kg, its
+ * vertical moment, kg mm, and its KG, mm, rounded up and without an upper limit. Refused in this order: 7, not whole or a
+ * wrong count, at 0 for `shifts`, 1 for `off` and 2 for `on`, and at 3 where `gms` holds fewer numbers than there are
+ * shifts; 4 at the number's position from 0 in `test`, `shifts`, `off`, `on`; 20, a light weight of 0 or less, and 21, a
+ * negative moment of it, both at 0. */
+uint64_t rugulosca_light_ship(const uint64_t test[4],
+                              const uint64_t *shifts, size_t shifts_length,
+                              const int64_t *off, size_t off_length,
+                              const int64_t *on, size_t on_length,
+                              uint64_t *gms, size_t gms_length,
+                              uint64_t light_ship[4], size_t *place);
 
 /* The loading condition. `wholes`: weight, draft, KM, LCG, vertical moment, free surface, how it lies, 1 for a pass and 0
  * otherwise. `signed_numbers`: GM, transverse moment. `tangent` is left only where the vessel is heeled. A tank has free

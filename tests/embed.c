@@ -1,7 +1,7 @@
 /* The smallest program around the library: the sheet of the file on standard input, on standard output. Before it, on a
  * barge of the program's own, its rows by both engines, a tally, which is what a crane panel does for a lift, a load by
- * both readings of KM, what is refused, with its place, the longest text that the writer writes, and the free surface of
- * a hopper tank. */
+ * both readings of KM, what is refused, with its place, the longest text that the writer writes, the free surface of a
+ * hopper tank, and the light ship of an inclining test. */
 #include <assert.h>
 #include <stdio.h>
 #include <string.h>
@@ -154,6 +154,32 @@ static void hopper(void) {
     assert(refusal == 4 && place == 11 + 2 && surface[0] == 720000000000 && surface[1] == 738000);
 }
 
+/* A vessel of 100 t with KM 3 m: 1 t over 10 m deflects a pendulum of 1 m by 100 mm, and then by 125 mm, so that GM is
+ * 20,000,000·1,000/(100,000·225) mm. The gear of the test, 2.5 t at 4 m, is to take off, and an anchor of 500 kg at 2 m is to put
+ * on. What leaves no light ship, room for too few GMs and an item that is too high are refused and leave all. */
+static void inclining(void) {
+    const uint64_t test[4] = {100000, 3000, 0, 1000};
+    const uint64_t shifts[6] = {1000, 10000, 100, 1000, 10000, 125};
+    int64_t off[4] = {2500, 5000, 0, 4000};
+    const int64_t on[4] = {500, 9500, 0, 2000};
+    uint64_t gms[RUGULOSCA_GM_ROOM] = {0, 0, 77};
+    uint64_t light_ship[4] = {0, 0, 0, 0};
+    size_t place = 0;
+    uint64_t refusal =
+        rugulosca_light_ship(test, shifts, 6, off, 4, on, 4, gms, RUGULOSCA_GM_ROOM, light_ship, &place);
+    assert(refusal == 0 && gms[0] == 1000 && gms[1] == 800 && gms[2] == 77 && place == 0);
+    assert(light_ship[0] == 888 && light_ship[1] == 98000 && light_ship[2] == 202200000 && light_ship[3] == 2064);
+    off[0] = 100500;
+    gms[0] = 0;
+    refusal = rugulosca_light_ship(test, shifts, 6, off, 4, on, 4, gms, RUGULOSCA_GM_ROOM, light_ship, &place);
+    assert(refusal == 20 && place == 0 && gms[0] == 0 && light_ship[0] == 888 && light_ship[1] == 98000);
+    off[3] = 30001;
+    refusal = rugulosca_light_ship(test, shifts, 6, off, 4, on, 4, gms, 1, light_ship, &place);
+    assert(refusal == 7 && place == 3);
+    refusal = rugulosca_light_ship(test, shifts, 6, off, 4, on, 4, gms, 2, light_ship, &place);
+    assert(refusal == 4 && place == 4 + 6 + 3 && gms[0] == 0);
+}
+
 int main(void) {
     /* a byte more than a file may have, so that a longer one is refused */
     static uint8_t text[RUGULOSCA_LONGEST_FILE + 1];
@@ -169,6 +195,7 @@ int main(void) {
     refusals();
     assert(longest_text() == RUGULOSCA_LONGEST_TEXT);
     hopper();
+    inclining();
     read = fread(text, 1, sizeof text, stdin);
     /* room for the longest sheet is never too short, so this is never refused */
     rugulosca_report(text, read, sheet, sizeof sheet, &count, &place);

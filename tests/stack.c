@@ -2,7 +2,8 @@
  *
  * Counted from the caller's stack pointer at the call down to the deepest word that is written: the return address, the
  * call's own frame, and those of all that it calls. Arguments that C passes on the stack lie above, in the caller's
- * frame. Each call is made with several files, rooms and intervals, some of them refused, and the deepest counts. */
+ * frame. Each call is made with several files, rooms, intervals and pendulums, some of them refused, and the deepest
+ * counts. */
 #include <assert.h>
 #include <stdio.h>
 #include <stdlib.h>
@@ -10,7 +11,7 @@
 
 #include "../include/rugulosca.h"
 
-enum { PAINTED_BYTES = 256 * 1024, LAST_SLOT = RUGULOSCA_SLOTS - 1, ITEM_WIDTH = 4, WIDTHS = 11 };
+enum { PAINTED_BYTES = 256 * 1024, LAST_SLOT = RUGULOSCA_SLOTS - 1, ITEM_WIDTH = 4, WIDTHS = 11, SHIFT_WIDTH = 3 };
 
 /* What is lent. The reader fills the tables that are lent to the calls after it, and the rows' calls the rows. */
 static uint8_t text[RUGULOSCA_LONGEST_FILE + 1], room[RUGULOSCA_LONGEST_TEXT];
@@ -23,6 +24,10 @@ static double figures[7], tangent;
 static const uint64_t port[WIDTHS] = {900, 1100, 1250, 1350, 1400, 1400, 1350, 1250, 1100, 900, 700};
 static const uint64_t starboard[WIDTHS] = {1500, 1500, 1500, 1500, 1500, 1500, 1500, 1500, 1500, 1500, 1500};
 static uint64_t interval, surface[2];
+
+/* The largest inclining test, with the file's items to take off and to put on, its pendulum in range or not. */
+static uint64_t test[4] = {17600000, 9000, 1250000000, 0}, gms[RUGULOSCA_GM_ROOM], light_ship[4];
+static uint64_t shifts[SHIFT_WIDTH * RUGULOSCA_GM_ROOM];
 
 /* A tally that waits for the last item, one that has it, and both as they were before a step. */
 static struct tally {
@@ -47,9 +52,11 @@ static uint64_t stack_pointer(void) {
         return refusal[0];                                                                                             \
     }
 #define HULL half_breadths, RUGULOSCA_HALF_BREADTH_ROOM
-#define LISTS items, RUGULOSCA_ITEM_ROOM, tanks, RUGULOSCA_TANK_ROOM
+#define ITEMS items, RUGULOSCA_ITEM_ROOM
+#define LISTS ITEMS, tanks, RUGULOSCA_TANK_ROOM
 #define ROWS rows, RUGULOSCA_ROW_ROOM
 #define CONDITION wholes, signed_numbers, &tangent, &place
+#define SHIFTS shifts, sizeof shifts / sizeof shifts[0]
 CALL(report, text, text_length, room, room_length, &count, &place)
 CALL(report_straight_line, text, text_length, room, room_length, &count, &place)
 CALL(read, text, text_length, HULL, LISTS, summary, &place)
@@ -64,6 +71,7 @@ CALL(discharge, laden.slots, laden.totals, &laden.transverse, LAST_SLOT, &place)
 CALL(shift, laden.slots, laden.totals, &laden.transverse, LAST_SLOT, items + 1, &place)
 CALL(condition_aboard, laden.slots, laden.totals, laden.transverse, tanks, RUGULOSCA_TANK_ROOM, ROWS, CONDITION)
 CALL(hopper_surface, port, WIDTHS, starboard, WIDTHS, interval, 1500, surface, &place)
+CALL(light_ship, test, SHIFTS, ITEMS, ITEMS, gms, RUGULOSCA_GM_ROOM, light_ship, &place)
 
 #define NAMED(name) {"rugulosca_" #name, call_##name}
 static const struct call {
@@ -72,7 +80,7 @@ static const struct call {
 } calls[] = {
     NAMED(report), NAMED(report_straight_line), NAMED(read), NAMED(write), NAMED(rows), NAMED(rows_by_sections),
     NAMED(display), NAMED(condition), NAMED(condition_straight_line), NAMED(load), NAMED(discharge), NAMED(shift),
-    NAMED(condition_aboard), NAMED(hopper_surface),
+    NAMED(condition_aboard), NAMED(hopper_surface), NAMED(light_ship),
 };
 
 /* Paints what lies below the caller's frame, from `painted` up. Each word gets its own address by a mask, so that what
@@ -115,6 +123,11 @@ int main(void) {
     const size_t rooms[] = {RUGULOSCA_LONGEST_TEXT, RUGULOSCA_LONGEST_TEXT - 1, RUGULOSCA_LONGEST_SHEET - 1, 0};
     text_length = largest;
     call_read(1);
+    for (size_t i = 0; i < RUGULOSCA_GM_ROOM; i++) {
+        shifts[SHIFT_WIDTH * i] = 20000;
+        shifts[SHIFT_WIDTH * i + 1] = 16000;
+        shifts[SHIFT_WIDTH * i + 2] = 100 + i;
+    }
     for (size_t slot = 0; slot < RUGULOSCA_SLOTS; slot++) {
         waiting_before = laden_before;
         rugulosca_load(laden_before.slots, laden_before.totals, &laden_before.transverse, slot,
@@ -128,6 +141,7 @@ int main(void) {
                 room_length = rooms[r];
                 /* refused with the rooms that are too short */
                 interval = r == 0 ? 1000 : 0;
+                test[3] = r == 0 ? 10000 : 0;
                 /* the whole file is answered where there is room, and a second time any call takes the same */
                 size_t need = need_of(&calls[i], t == 0 && r == 0, 0);
                 assert(need == need_of(&calls[i], t == 0 && r == 0, UINTPTR_MAX));

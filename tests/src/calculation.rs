@@ -2,7 +2,7 @@
 
 #[cfg(linked)]
 use crate::calls;
-use crate::calls::{Condition, Engine, Reading, Refusal, Summary, Surface, Tally};
+use crate::calls::{Condition, Engine, LightShip, Reading, Refusal, Summary, Surface, Tally};
 use crate::peer;
 
 type Report = fn(Reading, &[u8], &mut [u8]) -> Result<usize, Refusal>;
@@ -16,6 +16,7 @@ type Discharge = fn(&mut Tally, usize) -> Result<(), Refusal>;
 type Shift = fn(&mut Tally, usize, &[i64; 3]) -> Result<(), Refusal>;
 type AnswerAboard = fn(&Tally, &[i64], &[u64]) -> Result<Condition, Refusal>;
 type HopperSurface = fn(&[u64], &[u64], u64, u64) -> Result<Surface, Refusal>;
+type Incline = fn(&[u64; 4], &[u64], &[i64], &[i64], &mut [u64]) -> Result<LightShip, Refusal>;
 
 /// One calculation's calls. They are called through pointers, so that neither is drawn into the loop that times it.
 pub struct Calculation {
@@ -31,6 +32,7 @@ pub struct Calculation {
     pub shift: Shift,
     pub condition_aboard: AnswerAboard,
     pub hopper_surface: HopperSurface,
+    pub light_ship: Incline,
 }
 
 pub const PEER: Calculation = Calculation {
@@ -47,6 +49,7 @@ pub const PEER: Calculation = Calculation {
     shift: peer::shift,
     condition_aboard: peer::condition_aboard,
     hopper_surface: peer::hopper_surface,
+    light_ship: peer::light_ship,
 };
 
 #[cfg(linked)]
@@ -63,6 +66,7 @@ pub const LIBRARY: Calculation = Calculation {
     shift: calls::shift,
     condition_aboard: calls::condition_aboard,
     hopper_surface: calls::hopper_surface,
+    light_ship: calls::light_ship,
 };
 
 /// What is to be tested: the own calculation, and the library's where it is linked.

@@ -1,4 +1,4 @@
-//! Rugulosca for Rust: the fourteen calls of `include/rugulosca.h` over slices, with a refusal as the error.
+//! Rugulosca for Rust: the fifteen calls of `include/rugulosca.h` over slices, with a refusal as the error.
 //!
 //! This file stands alone: a program that links `librugulosca.a` can take it as it is. Nothing is allocated or kept,
 //! and no call has a condition on its numbers, lengths or bytes.
@@ -89,6 +89,16 @@ impl Tally {
 pub struct Surface {
     pub inertia: u64,
     pub moment: u64,
+}
+
+/// A light ship as its inclining test gives it: measured GM in mm, light weight in kg, its vertical moment in kg·mm, and
+/// its KG in mm.
+#[derive(Clone, Copy, Debug, PartialEq, Eq)]
+pub struct LightShip {
+    pub gm: u64,
+    pub weight: u64,
+    pub vertical_moment: u64,
+    pub kg: u64,
 }
 
 /// The header's declarations, for those who want the numbers as C sees them.
@@ -279,6 +289,20 @@ pub mod raw {
             surface: *mut [u64; 2],
             place: *mut usize,
         ) -> u64;
+
+        pub fn rugulosca_light_ship(
+            test: *const [u64; 4],
+            shifts: *const u64,
+            shifts_length: usize,
+            off: *const i64,
+            off_length: usize,
+            on: *const i64,
+            on_length: usize,
+            gms: *mut u64,
+            gms_length: usize,
+            light_ship: *mut [u64; 4],
+            place: *mut usize,
+        ) -> u64;
     }
 }
 
@@ -457,6 +481,36 @@ pub fn hopper_surface(port: &[u64], starboard: &[u64], interval: u64, density: u
     };
     let [inertia, moment] = surface;
     answer(number, place, Surface { inertia, moment })
+}
+
+/// The light ship from W, KM, free surface and pendulum length of an inclining test, its shifts, and the items to take off
+/// and to put on; each shift's own GM goes into the lent table.
+pub fn light_ship(
+    test: &[u64; 4],
+    shifts: &[u64],
+    off: &[i64],
+    on: &[i64],
+    gms: &mut [u64],
+) -> Result<LightShip, Refusal> {
+    let (mut light_ship, mut place) = ([0; 4], 0);
+    // SAFETY: as in `report`.
+    let number = unsafe {
+        raw::rugulosca_light_ship(
+            test,
+            shifts.as_ptr(),
+            shifts.len(),
+            off.as_ptr(),
+            off.len(),
+            on.as_ptr(),
+            on.len(),
+            gms.as_mut_ptr(),
+            gms.len(),
+            &mut light_ship,
+            &mut place,
+        )
+    };
+    let [gm, weight, vertical_moment, kg] = light_ship;
+    answer(number, place, LightShip { gm, weight, vertical_moment, kg })
 }
 
 /// The answer where the number is 0, and the refusal otherwise.

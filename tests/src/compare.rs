@@ -4,10 +4,12 @@ mod engines;
 mod half_breadths;
 mod history;
 mod hoppers;
+mod inclining;
 mod lengths;
 mod observation;
 mod outcomes;
 mod readings;
+mod refused_tests;
 mod round_trip;
 mod settled;
 mod spellings;
@@ -50,6 +52,7 @@ pub fn replay(seed: u64, number: u64) -> bool {
             call.by_straight_line().iter().chain([call]).for_each(show);
             call.rows_by_both_engines().iter().flatten().for_each(show);
             call.with_middle_line_moved().iter().flatten().for_each(show);
+            call.with_test_altered().iter().flatten().for_each(show);
         }
         Case::History(steps) => {
             for (call, list) in history::calls(steps) {
@@ -72,7 +75,8 @@ fn show(call: &Call) {
 }
 
 /// Examines each call of a case; the steps of a history must also be the list's, the two readings of KM must fit, both
-/// engines must make the same of a hull, and a surface must be the same with its middle line moved.
+/// engines must make the same of a hull, a surface must be the same with its middle line moved, and a light ship must fit
+/// its test altered.
 fn examine(case: &Case, wrapped: bool, outcomes: &mut Outcomes) -> Result<(), String> {
     match case {
         Case::Call(call) => {
@@ -89,6 +93,11 @@ fn examine(case: &Case, wrapped: bool, outcomes: &mut Outcomes) -> Result<(), St
             for (side, moved) in call.with_middle_line_moved().into_iter().flatten().enumerate() {
                 hoppers::same_surface(&library, &examine_call(&moved, wrapped)?)?;
                 outcome.middle_line[side] = moved != *call;
+            }
+            if let Some(altered) = call.with_test_altered() {
+                let [turned, larger, filled] = altered.each_ref().map(|altered| examine_call(altered, wrapped));
+                inclining::fits(call, &library, [turned?, larger?, filled?])?;
+                outcome.altered = altered.map(|altered| altered != *call);
             }
             outcomes.add(&outcome);
         }
@@ -125,6 +134,7 @@ fn examine_call(call: &Call, wrapped: bool) -> Result<Observation, String> {
     }
     if library.number == 0 {
         round_trip::examine(call, &library)?;
+        inclining::examine(call, &library)?;
     }
     Ok(library)
 }

@@ -1,8 +1,10 @@
 //! Cases for the comparison, drawn from a seed: each case depends on the seed and its own number alone.
 
+mod damaged_tests;
 mod edges;
 mod hoppers;
 mod hulls;
+mod inclining;
 mod layouts;
 mod loads;
 mod random;
@@ -13,11 +15,14 @@ mod texts;
 #[cfg(test)]
 mod trial_hoppers;
 #[cfg(test)]
+mod trial_inclining;
+#[cfg(test)]
 mod trial_texts;
 
 use crate::calculation::PEER;
 use crate::calls::{Engine, Reading, Summary, Tally};
 use crate::hopper::Hopper;
+use crate::inclining::Inclining;
 use crate::peer;
 use crate::peer::ranges::{half_breadth_count, HALF_BREADTH, ITEM, PARTICULARS, ROW, TANK};
 use crate::peer::ranges::{HALF_BREADTH_ROOM, ITEM_ROOM, ROW_ROOM, SHEET_ROOM, TANK_ROOM};
@@ -54,6 +59,7 @@ pub enum Call {
     Step { tally: Box<Tally>, step: Step },
     Aboard { tally: Box<Tally>, tanks: Vec<i64>, rows: Vec<u64> },
     Surface { hopper: Hopper },
+    LightShip { inclining: Inclining, room: usize },
 }
 
 /// The numbers of an offset file.
@@ -88,7 +94,7 @@ impl FileNumbers {
 impl Case {
     pub fn generate(seed: u64, number: u64) -> Case {
         let random = &mut Random::for_case(seed, number);
-        Case::Call(match random.below(22) {
+        Case::Call(match random.below(24) {
             0..=4 => report(random),
             5..=7 => read(random),
             8..=9 => write(random),
@@ -98,6 +104,7 @@ impl Case {
             16..=17 => step(random),
             18 => aboard(random),
             19..=20 => surface(random),
+            21..=22 => light_ship(random),
             _ => return Case::History(tallies::history(random)),
         })
     }
@@ -131,6 +138,20 @@ impl Call {
         match self {
             Call::Surface { hopper } if hopper.by(&PEER).is_ok() => {
                 Some(hopper.moves().map(|width| Call::Surface { hopper: hopper.moved(width) }))
+            }
+            _ => None,
+        }
+    }
+
+    /// The call's inclining test, where it is answered: with its shifts turned about, with as large a free surface as is
+    /// still answered, and with the same items besides on both sides.
+    pub fn with_test_altered(&self) -> Option<[Call; 3]> {
+        match self {
+            Call::LightShip { inclining, room } => {
+                let light_ship = inclining.by(&PEER, &mut vec![0; *room]).ok()?;
+                let altered =
+                    [inclining.turned(), inclining.with_surface_of(light_ship.vertical_moment), inclining.filled()];
+                Some(altered.map(|inclining| Call::LightShip { inclining, room: *room }))
             }
             _ => None,
         }
@@ -336,4 +357,13 @@ fn surface(random: &mut Random) -> Call {
         hoppers::damage(random, &mut hopper);
     }
     Call::Surface { hopper }
+}
+
+fn light_ship(random: &mut Random) -> Call {
+    let mut inclining = inclining::inclining(random);
+    let mut room = inclining::room(random, &inclining);
+    for _ in 0..damages(random) {
+        damaged_tests::damage(random, &mut inclining, &mut room);
+    }
+    Call::LightShip { inclining, room }
 }

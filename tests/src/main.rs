@@ -12,6 +12,7 @@ mod compare;
 #[cfg(linked)]
 mod generate;
 mod hopper;
+mod inclining;
 #[cfg(linked)]
 mod measure;
 mod peer;
@@ -27,7 +28,7 @@ use std::process::ExitCode;
 const USAGE: &str = "usage: outside compare SEED CASES | replay SEED CASE | vectors FOLDER | measure
        outside file FILE | repeat library|peer CALL FILE TIMES
        FILE: smallest|sample|forty|largest
-       CALL: read|rows|sections|condition|report|write|load|discharge|aboard|hopper";
+       CALL: read|rows|sections|condition|report|write|load|discharge|aboard|hopper|inclining";
 
 fn main() -> ExitCode {
     let arguments: Vec<String> = env::args().skip(1).collect();

@@ -4,7 +4,8 @@ use crate::calculation::{Calculation, LIBRARY, PEER};
 use crate::calls::{Engine, Reading, Tally};
 use crate::generate::FileNumbers;
 use crate::hopper::Hopper;
-use crate::peer::ranges::{HALF_BREADTH_ROOM, ITEM_ROOM, ROW, ROW_ROOM, TANK_ROOM};
+use crate::inclining::Inclining;
+use crate::peer::ranges::{HALF_BREADTH_ROOM, ITEM_ROOM, MOST_SHIFTS, ROW, ROW_ROOM, TANK_ROOM};
 use crate::peer::tally::SLOT_NUMBERS;
 use crate::peer::LONGEST_TEXT;
 use crate::samples;
@@ -13,15 +14,15 @@ use std::time::{Duration, Instant};
 
 const ROUNDS: usize = 40;
 const ROUND_TIME: Duration = Duration::from_millis(5);
-const CALLS: [&str; 10] =
-    ["read", "rows", "sections", "condition", "report", "write", "load", "discharge", "aboard", "hopper"];
+const CALLS: [&str; 11] =
+    ["read", "rows", "sections", "condition", "report", "write", "load", "discharge", "aboard", "hopper", "inclining"];
 
 /// Prints the times of every call on every file.
 pub fn run() {
     println!("ns per call: the median and the least of {ROUNDS} rounds of about {ROUND_TIME:?}, the two in turn.");
     println!("Tables and rooms are lent again as the call before left them; they are not cleared between calls.");
     println!("A tally has the file's items, one a slot; load and discharge are of the last of them, put back by hand.");
-    println!("A hopper tank is no part of a file: it is the largest beside each.");
+    println!("A hopper tank and an inclining test are no part of a file: they are the largest beside each.");
     println!("{:10} {:9} {:>19} {:>19} {:>13}", "call", "file", "library", "peer", "library/peer");
     for file in samples::NAMES {
         let mut lent = Lent::of(file).expect("the file has a name");
@@ -96,7 +97,8 @@ fn calls_in_a_round(call: &str, lent: &mut Lent) -> u64 {
     times
 }
 
-/// A file with its numbers, a tally of its items, the largest hopper tank, and the tables and rooms that are lent.
+/// A file with its numbers, a tally of its items, the largest hopper tank and inclining test, and the tables and rooms that
+/// are lent.
 struct Lent {
     text: Vec<u8>,
     particulars: [u64; 5],
@@ -106,7 +108,9 @@ struct Lent {
     rows: Vec<u64>,
     lift: Lift,
     hopper: Hopper,
+    inclining: Inclining,
     room: Vec<u8>,
+    gms: [u64; MOST_SHIFTS],
     tables: (Vec<u64>, Vec<i64>, Vec<i64>, Vec<u64>),
 }
 
@@ -119,13 +123,14 @@ impl Lent {
         let rows = tables.3[..ROW.len() * count].to_vec();
         (PEER.condition)(Reading::default(), &items, &tanks, &rows).ok()?;
         let lift = Lift::of(&items)?;
-        let hopper = samples::largest_hopper();
-        let (text, room) = (text.into_bytes(), vec![0; LONGEST_TEXT]);
-        Some(Lent { text, particulars, half_breadths, items, tanks, rows, lift, hopper, room, tables })
+        let (hopper, inclining) = (samples::largest_hopper(), samples::largest_inclining());
+        let (text, room, gms) = (text.into_bytes(), vec![0; LONGEST_TEXT], [0; MOST_SHIFTS]);
+        Some(Lent { text, particulars, half_breadths, items, tanks, rows, lift, hopper, inclining, room, gms, tables })
     }
 
     fn call(&mut self, calculation: &Calculation, call: &str, times: u64) {
-        let Lent { text, particulars, half_breadths, items, tanks, rows, lift, hopper, room, tables } = self;
+        let Lent { text, particulars, half_breadths, items, tanks, rows, lift, hopper, inclining, room, gms, tables } =
+            self;
         let Lift { slot, item, before, after } = lift;
         let (read_half_breadths, read_items, read_tanks, made_rows) = tables;
         let reading = Reading::default();
@@ -172,6 +177,11 @@ impl Lent {
                 black_box((calculation.condition_aboard)(black_box(after), black_box(tanks), black_box(rows))).is_ok()
             }),
             "hopper" => repeatedly(times, || black_box(black_box(&*hopper).by(calculation)).is_ok()),
+            "inclining" => repeatedly(times, || {
+                let answer = black_box(black_box(&*inclining).by(calculation, gms));
+                black_box(&gms);
+                answer.is_ok()
+            }),
             _ => repeatedly(times, || {
                 let numbers = black_box((&particulars, &half_breadths, &items, &tanks));
                 let answer = (calculation.write)(numbers.0, numbers.1, numbers.2, numbers.3, room);

@@ -1,10 +1,12 @@
 //! Files with a name: the paper's sample, the smallest that gives a condition, the largest, and one of forty intervals of
-//! length, which is the largest's hull with half as many. Beside them the largest hopper tank.
+//! length, which is the largest's hull with half as many. Beside them the largest hopper tank and inclining test.
 
 #[cfg(test)]
 use crate::calls::Reading;
 use crate::hopper::Hopper;
-use crate::peer::ranges::{LONGEST_HULL, MOST_INTERVALS, MOST_ITEMS, MOST_TANKS, MOST_WATERLINES, MOST_WIDTHS};
+use crate::inclining::Inclining;
+use crate::peer::ranges::{LONGEST_HULL, MOST_INTERVALS, MOST_ITEMS, MOST_SHIFTS};
+use crate::peer::ranges::{MOST_TANKS, MOST_WATERLINES, MOST_WIDTHS};
 
 pub const NAMES: [&str; 4] = ["smallest", "sample", "forty", "largest"];
 
@@ -102,6 +104,18 @@ fn sideways(number: i64) -> i64 {
 pub fn largest_hopper() -> Hopper {
     let widths = |widest: u64| (1..=MOST_WIDTHS as u64).map(|i| widest - 900 / i).collect();
     Hopper { port: widths(1_000), starboard: widths(1_475), interval: 875, density: 1_025 }
+}
+
+/// As many shifts and items as may be: four weights in turn, and a light ship of about 9,000 t.
+pub fn largest_inclining() -> Inclining {
+    let shift = |i: u64| [19_000 + 250 * (i % 4), 15_000 - 100 * i, 61 + i % 2];
+    let item = |kg: i64| move |i: i64| [kg - 100 * i, 3_000 * i + 1_500, sideways(i), 4_000 + 500 * i];
+    Inclining {
+        test: [9_250_000, 8_750, 1_250_000_000, 4_500],
+        shifts: (0..MOST_SHIFTS as u64).flat_map(shift).collect(),
+        off: (0..ITEMS).flat_map(item(12_500)).collect(),
+        on: (0..ITEMS).flat_map(item(5_750)).collect(),
+    }
 }
 
 fn line(text: &mut String, numbers: impl IntoIterator<Item = i64>) {

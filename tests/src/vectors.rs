@@ -1,8 +1,9 @@
 //! Answers worked out elsewhere, byte for byte: each `.txt` file's sheet must be its `.out` file, that of a
-//! `straight-line-` `.txt` file by the straight line, and so must the totals after each step of a `tally-` `.in` file, and
-//! the free surface of a `hopper-` `.in` file.
+//! `straight-line-` `.txt` file by the straight line, and so must the totals after each step of a `tally-` `.in` file,
+//! the free surface of a `hopper-` `.in` file, and the light ship of an `inclining-` `.in` file.
 
 mod hoppers;
+mod inclining;
 mod steps;
 
 use crate::calculation::{Calculation, CALCULATIONS};
@@ -11,6 +12,7 @@ use crate::peer::ranges::SHEET_ROOM;
 use std::fs;
 use std::io;
 use std::path::{Path, PathBuf};
+use std::str::FromStr;
 
 /// Runs every calculation over a folder of vectors; answers whether all agree.
 pub fn run(folder: &Path) -> io::Result<bool> {
@@ -18,6 +20,7 @@ pub fn run(folder: &Path) -> io::Result<bool> {
     let straight_line_sheets = inputs(folder, "straight-line-", ".txt")?;
     let tallies = inputs(folder, "tally-", ".in")?;
     let hoppers = inputs(folder, "hopper-", ".in")?;
+    let tests = inputs(folder, "inclining-", ".in")?;
     let mut agree = true;
     for calculation in CALCULATIONS {
         let name = calculation.name;
@@ -26,6 +29,7 @@ pub fn run(folder: &Path) -> io::Result<bool> {
         agree &= all_agree(name, "straight-line sheets", &straight_line_sheets, by(Reading::StraightLine))?;
         agree &= all_agree(name, "tallies", &tallies, |input| steps::by_calculation(calculation, input))?;
         agree &= all_agree(name, "hopper tanks", &hoppers, |input| hoppers::by_calculation(calculation, input))?;
+        agree &= all_agree(name, "inclining tests", &tests, |input| inclining::by_calculation(calculation, input))?;
     }
     agree &= all_agree("peer's list", "tallies", &tallies, steps::by_list)?;
     Ok(agree)
@@ -65,6 +69,18 @@ fn sheet(calculation: &Calculation, reading: Reading, text: &[u8]) -> Option<Vec
     let mut room = [0; SHEET_ROOM];
     let length = (calculation.report)(reading, text, &mut room).ok()?;
     Some(room[..length].to_vec())
+}
+
+/// The numbers of a line.
+fn numbers<T: FromStr>(line: &str) -> Option<Vec<T>> {
+    line.split(' ').map(|word| word.parse().ok()).collect()
+}
+
+/// The numbers of a line after their count.
+fn counted<T: FromStr>(line: &str) -> Option<Vec<T>> {
+    let (count, rest) = line.split_once(' ').unwrap_or((line, ""));
+    let numbers = if rest.is_empty() { Vec::new() } else { numbers(rest)? };
+    (count.parse() == Ok(numbers.len())).then_some(numbers)
 }
 
 /// A refusal as the answers have it.

@@ -1,6 +1,6 @@
 -- Demand 1, call by call: the promise's own outcome makes one answer that keeps it; that no other does is the promise's uniqueness, and that a refusal's number is the
 -- paper's its numbering.
---     sheet-answers, reader-answers, writer-answers, rows-answer, display-answers, hopper-answers, condition-answers, totals-answer, step-answers, aboard-answers
+--     sheet-answers, reader-answers, writer-answers, rows-answer, inclining-answers, display-answers, hopper-answers, condition-answers, totals-answer, step-answers, aboard-answers
 -- Assumes nothing.
 use mathlib.Core.Path.{_≡_, refl, sym, subst, _∙_}
 use mathlib.Core.List.{List, map}
@@ -45,6 +45,13 @@ use Rattle.hydrostatics.specs.declared.Rows.{Rows as MadeOrNot}
 use Rattle.hydrostatics.specs.declared.Rows.the-variants as MadeOrNot
 use Rattle.hydrostatics.proofs.Numbered.{rows-numbered, display-numbered}
 use Rattle.hydrostatics.proofs.Unique.{makes-rows-unique, display-unique}
+use Rattle.inclining.specs.Inclining.{MakesLightShip, inclinedOf}
+use Rattle.inclining.specs.Inclining as Inclining
+use Rattle.inclining.specs.declared.Answer.{Answer as Inclined}
+use Rattle.inclining.specs.declared.Answer.the-variants as Inclined
+use Rattle.inclining.specs.declared.Test.{Test}
+use Rattle.inclining.proofs.Numbered.{inclined-numbered}
+use Rattle.inclining.proofs.Unique.{light-ship-unique}
 use Rattle.loading.specs.Condition.{conditionBy}
 use Rattle.loading.specs.Items.{itemTotals}
 use Rattle.loading.specs.Promise as Loading
@@ -156,6 +163,24 @@ module _ (halfBreadths : List ℕ) (p : Particulars) (rows : List ℕ) where
         only = λ other k. two-same other back (makes-rows-unique k kept);
         numbered = numbered-as t (with-numbered rowCount numbers (rows-numbered halfBreadths p (length rows)));
         untouched = λ e. left-refused _ numbers rows (with-refused rowCount numbers (sym (t .is) ∙ e));
+      }
+
+-- ---- the light ship
+module _ (test : Test) (shifts : List ℕ) (off on : List ℤ) (gms : List ℕ) where
+  abbrev inclined : Outcome Inclining.Inclined
+  inclined = inclinedOf test shifts off on (length gms)
+
+  pub inclining-answers : AnswersOrRefuses (λ (back : Inclined × List ℕ). MakesLightShip test shifts off on gms (back .1) (back .0)) (λ back. Inclining.paper (back .0)) (λ back. back .1 ≡ gms)
+  inclining-answers =
+      let t = told Inclining.paper Inclined.Found Inclined.Refused (λ v. refl) (λ r. refl) (Inclining.shipOf inclined) in
+      let back : Inclined × List ℕ = (t .answer, Inclining.tableAfter inclined gms) in
+      let kept : MakesLightShip test shifts off on gms (back .1) (back .0) = record { answer-is = t .is; left = refl } in
+      record {
+        back = back;
+        kept = kept;
+        only = λ other k. two-same other back (light-ship-unique k kept);
+        numbered = numbered-as t (with-numbered (λ i. i .light) inclined (inclined-numbered test shifts off on (length gms)));
+        untouched = λ e. left-refused _ inclined gms (with-refused (λ i. i .light) inclined (sym (t .is) ∙ e));
       }
 
 -- ---- the display, a hopper's surface and the condition

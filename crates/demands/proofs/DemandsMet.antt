@@ -39,8 +39,9 @@ use Rattle.demands.specs.HopperTanks.{HopperTanks}
 use Rattle.demands.specs.RunningTally.{RunningTally}
 use Rattle.demands.specs.SecondCalculation.{SecondCalculation}
 use Rattle.demands.specs.TwoReadings.{TwoReadings}
-use Rattle.demands.proofs.Answering.{sheet-answers, reader-answers, writer-answers, rows-answer, display-answers, hopper-answers, condition-answers, totals-answer, step-answers, aboard-answers}
+use Rattle.demands.proofs.Answering.{sheet-answers, reader-answers, writer-answers, rows-answer, inclining-answers, display-answers, hopper-answers, condition-answers, totals-answer, step-answers, aboard-answers}
 use Rattle.demands.proofs.Hoppers.{in-order, beside-condition}
+use Rattle.demands.proofs.Inclined.{inclining-test}
 use Rattle.demands.proofs.Longer.{longer-tables}
 
 demand-1 : Demand1
@@ -50,6 +51,7 @@ demand-1 = record {
   of-the-writer = writer-answers;
   of-the-rows = rows-answer;
   of-the-display = display-answers;
+  of-an-inclining-test = inclining-answers;
   of-a-hopper = hopper-answers;
   of-the-condition = condition-answers;
   of-a-step = step-answers;
@@ -144,4 +146,5 @@ demands-met = record {
   second-calculation = second-calculation;
   longer-tables = longer-tables;
   hopper-tanks = hopper-tanks;
+  inclining-test = inclining-test;
 }

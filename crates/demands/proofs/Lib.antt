@@ -3,4 +3,5 @@ pub mod Backs
 pub mod Answering
 pub mod Longer
 pub mod Hoppers
+pub mod Inclined
 pub mod DemandsMet

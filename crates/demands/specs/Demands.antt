@@ -33,6 +33,10 @@ use Rattle.hydrostatics.specs.declared.Display.{Display as Displayed}
 use Rattle.hydrostatics.specs.declared.Row.{Row}
 use Rattle.hydrostatics.specs.declared.Rows.{Rows as MadeOrNot}
 use Rattle.hydrostatics.specs.declared.Rows.the-variants.{Made}
+use Rattle.inclining.specs.Inclining as Inclining
+use Rattle.inclining.specs.Inclining.{MakesLightShip}
+use Rattle.inclining.specs.declared.Answer.{Answer as Inclined}
+use Rattle.inclining.specs.declared.Test.{Test}
 use Rattle.loading.specs.Condition.{conditionAt}
 use Rattle.loading.specs.Demand.{LoweredTables, NoWorse}
 use Rattle.loading.specs.Fraction.{LessThanThreeBelow}
@@ -61,6 +65,7 @@ use Rattle.rugulosca.specs.Told.{Tells, Apart}
 use Rattle.demands.specs.Answering.{AnswersOrRefuses}
 use Rattle.demands.specs.Conditioned.{Conditioned, IsCondition}
 use Rattle.demands.specs.HopperTanks.{HopperTanks}
+use Rattle.demands.specs.IncliningTest.{IncliningTest}
 use Rattle.demands.specs.LongerTables.{LongerTables}
 use Rattle.demands.specs.RunningTally.{RunningTally}
 use Rattle.demands.specs.SecondCalculation.{SecondCalculation}
@@ -77,6 +82,8 @@ pub record Demand1 : Type 1 where
       → AnswersOrRefuses (λ (back : Written × List ℕ). Writes p halfBreadths items tanks room (back .1) (back .0)) (λ back. Writer.paper (back .0)) (λ back. back .1 ≡ room)
   pub of-the-rows : (halfBreadths : List ℕ) (p : Particulars) (rows : List ℕ)
       → AnswersOrRefuses (λ (back : MadeOrNot × List ℕ). MakesRows halfBreadths p rows (back .1) (back .0)) (λ back. Rows.paper (back .0)) (λ back. back .1 ≡ rows)
+  pub of-an-inclining-test : (test : Test) (shifts : List ℕ) (off on : List ℤ) (gms : List ℕ)
+      → AnswersOrRefuses (λ (back : Inclined × List ℕ). MakesLightShip test shifts off on gms (back .1) (back .0)) (λ back. Inclining.paper (back .0)) (λ back. back .1 ≡ gms)
   -- a step of a tally hands the tally back; lent, it leaves that one
   pub of-a-step : (step : Step) (t : Tally)
       → AnswersOrRefuses (λ (back : Stepped). back ≡ stepped t (taken step t)) Steps.paper (λ back. back .tally ≡ t)
@@ -139,3 +146,4 @@ pub record Demands : Type 1 where
   pub second-calculation : SecondCalculation
   pub longer-tables : LongerTables
   pub hopper-tanks : HopperTanks
+  pub inclining-test : IncliningTest

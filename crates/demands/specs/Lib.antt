@@ -1,4 +1,4 @@
--- The customer's three demands, the words that they are said in, and what the running tally, the readings of KM, the second calculation, the longer tables and the hopper tanks are asked.
+-- The customer's three demands, the words that they are said in, and what the running tally, the readings of KM, the second calculation, the longer tables, the hopper tanks and the inclining test are asked.
 pub mod Answering
 pub mod Conditioned
 pub mod RunningTally
@@ -6,4 +6,5 @@ pub mod TwoReadings
 pub mod SecondCalculation
 pub mod LongerTables
 pub mod HopperTanks
+pub mod IncliningTest
 pub mod Demands

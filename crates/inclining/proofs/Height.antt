@@ -18,7 +18,7 @@ use Rattle.arithmetic.proofs.Rounding.{RoundedUp, up-of, up-mono}
 use Rattle.loading.specs.Fraction.{Fraction}
 use Rattle.loading.specs.declared.Totals.{Totals}
 use Rattle.loading.proofs.Difference.{difference-le}
-use Rattle.inclining.specs.Light.{unroundedMoment}
+use Rattle.inclining.specs.Light.{withSurface, unroundedMoment}
 use Rattle.inclining.specs.declared.LightShip.{LightShip}
 use Rattle.inclining.specs.declared.Test.{Test}
 use Rattle.inclining.proofs.Answered.{Lightened}
@@ -47,9 +47,6 @@ module _ {test : Test} {off on : Totals} {gm : ℕ} {ship : LightShip} (so : Lig
       (rw scaled (simp ring (omega (arith, up, simp ring at down))))))
 
 -- ---- a larger free surface
-abbrev pub withSurface : Test → ℕ → Test
-withSurface test surface = record { weight = test .weight; km = test .km; «free_surface» = surface; pendulum = test .pendulum }
-
 pub record MoreSurface (ship ship′ : LightShip) : Type 0 where
   pub same-gm : ship′ .«measured_gm» ≡ ship .«measured_gm»
   pub same-weight : ship′ .weight ≡ ship .weight

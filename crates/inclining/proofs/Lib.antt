@@ -9,4 +9,5 @@ pub mod Between
 pub mod Height
 pub mod Unique
 pub mod Order
+pub mod Surface
 pub mod Numbered

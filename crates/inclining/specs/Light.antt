@@ -12,6 +12,10 @@ use Rattle.loading.specs.declared.Totals.{Totals}
 use Rattle.inclining.specs.declared.LightShip.{LightShip}
 use Rattle.inclining.specs.declared.Test.{Test}
 
+-- the same test with another free surface
+abbrev pub withSurface : Test → ℕ → Test
+withSurface test surface = record { weight = test .weight; km = test .km; «free_surface» = surface; pendulum = test .pendulum }
+
 -- "The vertical moment is W·(KM − GM) less free surface": of either sign, since GM may be above KM
 unfoldable pub verticalMoment : Test → ℕ → ℤ
 verticalMoment test gm = pos (test .weight) *ℤ (pos (test .km) -ℤ pos gm) -ℤ pos (test .«free_surface»)

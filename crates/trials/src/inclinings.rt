@@ -29,14 +29,27 @@ pub(crate) fn is_answered(text: &[u8], answer: &[u8]) -> bool {
     let off = of_off.numbers;
     let on = of_on.numbers;
     let mut gms = [0u64; ROOM];
-    let made = inclining::light_ship(
+    is_answer(
+        answer,
         tested.test,
         &shifts[..of_shifts.count],
         &off[..of_off.count],
         &on[..of_on.count],
         &mut gms[..room.value],
-    );
-    after_answer(answer, &gms[..of_shifts.count / ranges::SHIFT_WIDTH], made) == answer.len()
+    )
+}
+
+// Whether the answer is that of the call with these tables.
+fn is_answer(
+    answer: &[u8],
+    test: Test,
+    shifts: &[u64],
+    off: &[i64],
+    on: &[i64],
+    gms: &mut [u64],
+) -> bool {
+    let made = inclining::light_ship(test, shifts, off, on, gms);
+    after_answer(answer, gms, shifts.len() / ranges::SHIFT_WIDTH, made) == answer.len()
 }
 
 // Reads W, KM, the free surface and the pendulum's length.
@@ -56,20 +69,28 @@ fn test_at(text: &[u8], at: usize) -> Tested {
     }
 }
 
-// The place after the answer's lines.
-fn after_answer(text: &[u8], gms: &[u64], made: Answer) -> usize {
+// The place after the answer's lines, with so many GMs.
+fn after_answer(text: &[u8], gms: &[u64], count: usize, made: Answer) -> usize {
     match made {
-        Answer::Found(ship) => after_ship(text, after_gms(text, gms), ship),
+        Answer::Found(ship) => after_ship(text, after_gms(text, gms, count), ship),
         Answer::Refused(refusal) => places::after_refusal(text, 0, refusal),
     }
 }
 
-// The place after the line of GMs: G, and each.
-fn after_gms(text: &[u8], gms: &[u64]) -> usize {
+// The GM at a place of the table, or 0 beyond its end.
+fn gm_at(gms: &[u64], i: usize) -> u64 {
+    if i < gms.len() {
+        return gms[i];
+    }
+    0
+}
+
+// The place after the line of GMs: G, and so many.
+fn after_gms(text: &[u8], gms: &[u64], count: usize) -> usize {
     let mut next = places::after(text, 0, b"G");
     let mut i = 0;
-    while i < gms.len() {
-        next = places::after_number(text, next, arithmetic::signed(gms[i]));
+    while i < count {
+        next = places::after_number(text, next, arithmetic::signed(gm_at(gms, i)));
         i += 1;
     }
     places::after(text, next, b"\n")

@@ -68,7 +68,8 @@ pub(crate) fn signed_at(text: &[u8], at: usize) -> Signed
     let mut i = 0;
     while i < count {
         let number = places::number_after(text, next);
-        numbers[i] = number.value;
+        let value = number.value;
+        numbers[i] = value;
         next = number.next;
         i += 1;
     }

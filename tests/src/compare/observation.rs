@@ -1,9 +1,10 @@
 //! All that can be seen of a call: its number, place and values, and every lent table and room afterwards.
 
 use crate::calculation::Calculation;
-use crate::calls::{raw, Condition, Engine, Heel, Reading, Refusal, Tally};
+use crate::calls::{raw, Condition, Engine, Heel, LightShip, Reading, Refusal, Tally};
 use crate::generate::{pattern, Call, FileNumbers};
 use crate::hopper::Hopper;
+use crate::inclining::Inclining;
 use crate::peer::History;
 use crate::step::Step;
 
@@ -21,7 +22,7 @@ pub struct Observation {
     pub values: Values,
     /// The room of a sheet or of a file.
     pub room: Vec<u8>,
-    /// Half-breadths that are read, or rows.
+    /// Half-breadths that are read, or rows, or GMs.
     pub wholes: Vec<u64>,
     pub items: Vec<i64>,
     pub tanks: Vec<i64>,
@@ -35,7 +36,7 @@ impl Observation {
         let (room, wholes, [items, tanks]) = match *call {
             Call::Report { room, .. } | Call::Write { room, .. } => (room, 0, [0, 0]),
             Call::Read { rooms: [half_breadths, items, tanks], .. } => (0, half_breadths, [items, tanks]),
-            Call::Rows { room, .. } => (0, room, [0, 0]),
+            Call::Rows { room, .. } | Call::LightShip { room, .. } => (0, room, [0, 0]),
             _ => (0, 0, [0, 0]),
         };
         let tally = match call {
@@ -66,6 +67,7 @@ impl Observation {
             Call::Step { step, .. } => self.raw_step(step),
             Call::Aboard { tally, tanks, rows } => self.raw_aboard(tally, tanks, rows),
             Call::Surface { hopper } => self.raw_surface(hopper),
+            Call::LightShip { inclining, .. } => self.raw_light_ship(inclining),
         };
         self
     }
@@ -208,6 +210,26 @@ impl Observation {
         }
     }
 
+    fn raw_light_ship(&mut self, inclining: &Inclining) -> u64 {
+        let Inclining { test, shifts, off, on } = inclining;
+        let light_ship = self.values.first_chunk_mut::<4>().expect("four of eleven");
+        unsafe {
+            raw::rugulosca_light_ship(
+                test,
+                shifts.as_ptr(),
+                shifts.len(),
+                off.as_ptr(),
+                off.len(),
+                on.as_ptr(),
+                on.len(),
+                self.wholes.as_mut_ptr(),
+                self.wholes.len(),
+                light_ship,
+                &mut self.place,
+            )
+        }
+    }
+
     /// Lends a condition's values to a call, and takes them back in the header's order.
     fn settle(&mut self, call: impl Fn(&mut [u64; 8], &mut [i64; 2], &mut f64, &mut usize) -> u64) -> u64 {
         let mut signed = [self.values[GM] as i64, self.values[TRANSVERSE_MOMENT] as i64];
@@ -260,6 +282,12 @@ impl Observation {
                 let answer = hopper.by(calculation);
                 self.note(answer, |surface, values| values[..2].copy_from_slice(&[surface.inertia, surface.moment]));
             }
+            Call::LightShip { inclining, .. } => {
+                let answer = inclining.by(calculation, &mut self.wholes);
+                self.note(answer, |LightShip { gm, weight, vertical_moment, kg }, values| {
+                    values[..4].copy_from_slice(&[gm, weight, vertical_moment, kg]);
+                });
+            }
         }
         self
     }
@@ -287,7 +315,7 @@ impl Observation {
             ("places", self.place == peer.place),
             ("values", self.values == peer.values),
             ("rooms", self.room == peer.room),
-            ("half-breadths or rows", self.wholes == peer.wholes),
+            ("half-breadths, rows or GMs", self.wholes == peer.wholes),
             ("items", self.items == peer.items),
             ("tanks", self.tanks == peer.tanks),
             ("tallies", self.tally == peer.tally),

@@ -3,22 +3,25 @@
 use super::engines::ENGINES;
 use super::half_breadths::{half_breadths, HALF_BREADTHS};
 use super::hoppers::{refused_surface, surface, MIDDLE_LINES, REFUSED_SURFACES, SURFACES};
+use super::inclining::{inclining, light_ship, ALTERATIONS, INCLININGS, LIGHT_SHIPS};
 use super::lengths::{lengths, LENGTHS, LENGTHS_BY_NUMBERS};
 use super::observation::Observation;
 use super::readings::{flotation, FLOTATIONS, READINGS};
+use super::refused_tests::{orders, refused_test, ORDERS, REFUSED_TESTS};
 use super::settled::{Settled, HEELS};
 use super::spellings::{in_text, in_token, IN_TEXTS, IN_TOKENS};
 use crate::calls::{Engine, Refusal, Tally};
 use crate::generate::Call;
 use crate::peer::condition::PRESSED_UP;
-use crate::peer::ranges::{ITEM, ITEM_PLACES, LONGEST_FILE, MOST_WIDTHS, TANK, TANK_PLACES};
+use crate::peer::ranges::{ITEM, ITEM_PLACES, ITEM_ROOM, LONGEST_FILE, MOST_SHIFTS, MOST_WIDTHS, SHIFT};
+use crate::peer::ranges::{TANK, TANK_PLACES, TEST};
 use crate::peer::tally::SLOT_NUMBERS;
 use crate::step::Step;
 use std::cmp::Ordering;
 use std::collections::BTreeSet;
 
 /// Sections are counted of every hull, whichever call it stands in.
-const CALLS: [&str; 12] = [
+const CALLS: [&str; 13] = [
     "report",
     "read",
     "write",
@@ -31,6 +34,7 @@ const CALLS: [&str; 12] = [
     "shift",
     "aboard",
     "hopper",
+    "inclining",
 ];
 const REPORT: usize = 0;
 const READ: usize = 1;
@@ -54,11 +58,12 @@ const ALLOWED: [&[usize]; CALLS.len()] = [
     &[4, 15, 17, 22],
     &[4, 7, 10, 11, 12, 13, 22],
     &[4, 7],
+    &[4, 7, 20, 21],
 ];
 const ROWS_ALLOWED: &[usize] = &[4, 7, 8, 9];
 /// Places that must be seen: of a file too long, of every table whose size a call may refuse, of the first item and tank,
 /// of every number of a step, of the first slot, the last and the first beyond, and of the first number of a hopper tank
-/// and the last of the largest.
+/// and of an inclining test and the last of the largest.
 const PLACES: [&[(usize, usize)]; CALLS.len()] = [
     &[(1, LONGEST_FILE), (13, TANK_PLACES)],
     &[(1, LONGEST_FILE), (7, 0), (7, 1), (7, 2)],
@@ -72,8 +77,10 @@ const PLACES: [&[(usize, usize)]; CALLS.len()] = [
     &[(4, 1), (4, 2), (4, 3), (15, 32), (17, 0), (17, 31), (22, 0)],
     &[(4, TANK_PLACES), (7, 2), (7, 3), (13, TANK_PLACES), (22, 0)],
     &[(4, 0), (4, 2 * MOST_WIDTHS + 1), (7, 0)],
+    &[(4, 0), (4, LAST_OF_INCLINING), (7, 0), (7, 1), (7, 2), (7, 3), (20, 0), (21, 0)],
 ];
 const ROWS_PLACES: &[(usize, usize)] = &[(7, 0), (7, 3)];
+const LAST_OF_INCLINING: usize = TEST.len() + MOST_SHIFTS * SHIFT.len() + 2 * ITEM_ROOM - 1;
 /// By number; those without a name are no call's.
 const REFUSALS: [&str; 23] = [
     "answered",
@@ -96,8 +103,8 @@ const REFUSALS: [&str; 23] = [
     "17 slot empty",
     "",
     "",
-    "",
-    "",
+    "20 no light weight",
+    "21 light moment below 0",
     "22 tally not sound",
 ];
 const VERDICTS: [&str; 2] = ["does not pass", "passes"];
@@ -114,7 +121,8 @@ const STATES: [&str; 4] = ["empty", "full", "with another mark than 1", "with so
 /// what the other reading of KM made of it, what both engines made of its hull, how long that is, which of its
 /// half-breadths it is refused for, how many of the condition's tanks are filled how, in which states the tally was that
 /// a step was answered on, what editors left in the text that was read or in its token that is no number, what a hopper
-/// tank's surface is like or is refused for, and to which sides its middle line was moved.
+/// tank's surface is like or is refused for, and to which sides its middle line was moved, and what an inclining test and
+/// its light ship are like or are refused for, before what, and how the test was altered.
 pub struct Outcome {
     call: usize,
     refusal: usize,
@@ -132,6 +140,11 @@ pub struct Outcome {
     surface: [bool; SURFACES.len()],
     refused_surface: [bool; REFUSED_SURFACES.len()],
     pub middle_line: [bool; MIDDLE_LINES.len()],
+    inclining: [bool; INCLININGS.len()],
+    light_ship: [bool; LIGHT_SHIPS.len()],
+    refused_test: [bool; REFUSED_TESTS.len()],
+    order: [bool; ORDERS.len()],
+    pub altered: [bool; ALTERATIONS.len()],
 }
 
 impl Outcome {
@@ -153,6 +166,11 @@ impl Outcome {
             surface: Default::default(),
             refused_surface: Default::default(),
             middle_line: Default::default(),
+            inclining: Default::default(),
+            light_ship: Default::default(),
+            refused_test: Default::default(),
+            order: Default::default(),
+            altered: Default::default(),
         };
         match Settled::of(call, seen) {
             Some(Ok(settled)) => {
@@ -172,10 +190,21 @@ impl Outcome {
                 Call::Step { tally, .. } => outcome.states = states(tally),
                 Call::Read { text, .. } => outcome.in_text = in_text(text),
                 Call::Surface { hopper } => outcome.surface = surface(hopper, seen),
+                Call::LightShip { inclining: test, .. } => {
+                    outcome.inclining = inclining(test, seen);
+                    outcome.light_ship = light_ship(test, seen);
+                }
                 _ => {}
             }
-        } else if let Call::Surface { hopper } = call {
-            outcome.refused_surface = refused_surface(hopper, seen);
+        } else {
+            match call {
+                Call::Surface { hopper } => outcome.refused_surface = refused_surface(hopper, seen),
+                Call::LightShip { inclining: test, .. } => {
+                    outcome.refused_test = refused_test(test, seen);
+                    outcome.order = orders(test, seen);
+                }
+                _ => {}
+            }
         }
         if let (Call::Read { text, .. }, NO_NUMBER) = (call, outcome.refusal) {
             outcome.in_token = in_token(text, seen.place);
@@ -199,6 +228,7 @@ fn index(call: &Call) -> usize {
         Call::Step { step: Step::Shift { .. }, .. } => 9,
         Call::Aboard { .. } => ABOARD,
         Call::Surface { .. } => 11,
+        Call::LightShip { .. } => 12,
     }
 }
 
@@ -241,6 +271,11 @@ pub struct Outcomes {
     surfaces: [u64; SURFACES.len()],
     refused_surfaces: [u64; REFUSED_SURFACES.len()],
     middle_lines: [u64; MIDDLE_LINES.len()],
+    inclinings: [u64; INCLININGS.len()],
+    light_ships: [u64; LIGHT_SHIPS.len()],
+    refused_tests: [u64; REFUSED_TESTS.len()],
+    orders: [u64; ORDERS.len()],
+    altered: [u64; ALTERATIONS.len()],
 }
 
 impl Outcomes {
@@ -268,6 +303,11 @@ impl Outcomes {
         count(&mut self.surfaces, outcome.surface);
         count(&mut self.refused_surfaces, outcome.refused_surface);
         count(&mut self.middle_lines, outcome.middle_line);
+        count(&mut self.inclinings, outcome.inclining);
+        count(&mut self.light_ships, outcome.light_ship);
+        count(&mut self.refused_tests, outcome.refused_test);
+        count(&mut self.orders, outcome.order);
+        count(&mut self.altered, outcome.altered);
     }
 
     pub fn print(&self) {
@@ -287,6 +327,11 @@ impl Outcomes {
         println!("surfaces answered with {}", listed(&SURFACES, &self.surfaces));
         println!("surfaces refused for {}", listed(&REFUSED_SURFACES, &self.refused_surfaces));
         println!("surfaces with their middle line moved {}", listed(&MIDDLE_LINES, &self.middle_lines));
+        println!("inclining tests answered with {}", listed(&INCLININGS, &self.inclinings));
+        println!("light ships with {}", listed(&LIGHT_SHIPS, &self.light_ships));
+        println!("inclining tests refused for {}", listed(&REFUSED_TESTS, &self.refused_tests));
+        println!("inclining tests refused for {}", listed(&ORDERS, &self.orders));
+        println!("inclining tests with {}", listed(&ALTERATIONS, &self.altered));
         for (call, name) in CALLS.iter().enumerate() {
             let seen = ALLOWED[call].iter().filter(|&&refusal| self.refusals[call][refusal] > 0).count();
             println!("{name}: refusals allowed {:?}, {seen} of {} seen", ALLOWED[call], ALLOWED[call].len());
@@ -336,6 +381,11 @@ impl Outcomes {
         missing.extend(never("surface answered", &SURFACES, &self.surfaces));
         missing.extend(never("surface refused", &REFUSED_SURFACES, &self.refused_surfaces));
         missing.extend(never("middle line moved", &MIDDLE_LINES, &self.middle_lines));
+        missing.extend(never("inclining test answered", &INCLININGS, &self.inclinings));
+        missing.extend(never("light ship", &LIGHT_SHIPS, &self.light_ships));
+        missing.extend(never("inclining test refused", &REFUSED_TESTS, &self.refused_tests));
+        missing.extend(never("inclining test refused", &ORDERS, &self.orders));
+        missing.extend(never("inclining test altered", &ALTERATIONS, &self.altered));
         missing.iter().for_each(|line| println!("NOT AS THE PAPER ALLOWS: {line}"));
         missing.is_empty()
     }

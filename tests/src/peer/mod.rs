@@ -8,6 +8,7 @@ pub mod condition;
 mod display;
 mod history;
 pub mod hopper;
+pub mod inclining;
 mod pen;
 pub mod ranges;
 mod reader;
@@ -19,6 +20,8 @@ mod writer;
 #[cfg(test)]
 mod trial_figures;
 #[cfg(test)]
+mod trial_light_ships;
+#[cfg(test)]
 mod trial_steps;
 #[cfg(test)]
 mod trial_surfaces;
@@ -27,6 +30,7 @@ pub use condition::condition;
 pub use display::display;
 pub use history::History;
 pub use hopper::hopper_surface;
+pub use inclining::light_ship;
 pub use reader::read;
 pub use rows::rows;
 pub use sheet::report;
@@ -54,6 +58,8 @@ mod refusals {
     pub const NO_SLOT: u64 = 15;
     pub const SLOT_TAKEN: u64 = 16;
     pub const SLOT_EMPTY: u64 = 17;
+    pub const NO_LIGHT_WEIGHT: u64 = 20;
+    pub const MOMENT_BELOW_0: u64 = 21;
     pub const TALLY: u64 = 22;
 }
 
@@ -64,6 +70,10 @@ mod tables {
     pub const TANKS: usize = 2;
     pub const ROWS: usize = 3;
     pub const WIDTHS: usize = 0;
+    pub const SHIFTS: usize = 0;
+    pub const OFF: usize = 1;
+    pub const ON: usize = 2;
+    pub const GMS: usize = 3;
 }
 
 /// Refuses with this number at this place.

@@ -29,6 +29,8 @@ impl Range {
 const X: Range = range(0, 100_000);
 const Y: Range = range(-10_000, 10_000);
 const Z: Range = range(0, 30_000);
+const DISPLACEMENT: Range = range(1, 17_600_000);
+const KM: Range = range(0, 100_000);
 pub const LIQUID_DENSITY: Range = range(1, 1_500);
 
 /// Intervals of length and of draft, mm between stations and between waterlines, water density.
@@ -45,17 +47,22 @@ pub const TANK: [Range; 8] =
 /// Draft, displacement, LCB, KB, BM, KM, waterplane area.
 pub const ROW: [Range; 7] = [
     range(20, 10_000),
-    range(1, 17_600_000),
+    DISPLACEMENT,
     range(0, 100_000),
     range(0, 10_000),
     range(0, 100_000),
-    range(0, 100_000),
+    KM,
     range(0, 1_600_000_000),
 ];
 
 /// A width of a hopper tank's surface, to port or to starboard, and the interval between one width and the next.
 pub const WIDTH: Range = range(0, 1_500);
 pub const WIDTH_INTERVAL: Range = range(50, 1_000);
+
+/// Of an inclining test: W, KM, free surface, pendulum length.
+pub const TEST: [Range; 4] = [DISPLACEMENT, KM, range(0, 10_240_000_000), range(500, 10_000)];
+/// Weight, distance, deflection.
+pub const SHIFT: [Range; 3] = [range(1, 20_000), range(1, 16_000), range(1, 2_000)];
 
 pub const MOST_ITEMS: usize = 32;
 pub const MOST_TANKS: usize = 16;
@@ -65,6 +72,9 @@ pub const MOST_ROWS: usize = MOST_WATERLINES - 2;
 /// Widths to either side of a hopper tank's surface, at 2 to 10 intervals.
 pub const FEWEST_WIDTHS: usize = 3;
 pub const MOST_WIDTHS: usize = 11;
+/// Shifts of an inclining test.
+pub const FEWEST_SHIFTS: usize = 2;
+pub const MOST_SHIFTS: usize = 12;
 
 /// Bytes that a file may have.
 pub const LONGEST_FILE: usize = 32_768;

@@ -1,7 +1,7 @@
 //! The surface of a hopper tank as a text: how many widths to port and the widths, the same to starboard, then the
 //! interval and the liquid density, a line each. The answer is a line: "A", inertia and moment, or "E" and the refusal.
 
-use super::refusal_line;
+use super::{counted, numbers, refusal_line};
 use crate::calculation::Calculation;
 use crate::calls::Surface;
 use crate::hopper::Hopper;
@@ -16,18 +16,8 @@ pub fn by_calculation(calculation: &Calculation, text: &[u8]) -> Option<Vec<u8>>
 }
 
 fn read(text: &[u8]) -> Option<Hopper> {
-    let lines: Vec<Vec<u64>> = std::str::from_utf8(text).ok()?.lines().map(numbers).collect::<Option<_>>()?;
-    let [port, starboard, rest] = <[_; 3]>::try_from(lines).ok()?;
-    let [interval, density] = rest.try_into().ok()?;
+    let lines: Vec<&str> = std::str::from_utf8(text).ok()?.lines().collect();
+    let [port, starboard, rest] = lines.try_into().ok()?;
+    let [interval, density] = numbers(rest)?.try_into().ok()?;
     Some(Hopper { port: counted(port)?, starboard: counted(starboard)?, interval, density })
-}
-
-fn numbers(line: &str) -> Option<Vec<u64>> {
-    line.split(' ').map(|word| word.parse().ok()).collect()
-}
-
-/// The numbers after their count.
-fn counted(mut line: Vec<u64>) -> Option<Vec<u64>> {
-    let count = line.remove(0);
-    (line.len() as u64 == count).then_some(line)
 }

@@ -27,8 +27,8 @@ number-after-requires c κs = search needs
 mul-numbers : tie.Need-mul-numbers Inv-loop μ-loop
 mul-numbers c = omega arith
 
-array-write-numbers : tie.Need-array-write-numbers Inv-loop μ-loop
-array-write-numbers c = omega arith
+array-set-from-numbers : tie.Need-array-set-from-numbers Inv-loop μ-loop
+array-set-from-numbers c = omega arith
 
 add-i : tie.Need-add-i Inv-loop μ-loop
 add-i c = omega arith
@@ -37,7 +37,7 @@ loop-less : tie.Need-loop-less Inv-loop μ-loop
 loop-less c = omega arith
 
 loop-again : tie.Need-loop-again Inv-loop μ-loop
-loop-again c = (omega arith, omega (arith, length-set (c .before .before .loop .numbers) (c .before .before .loop .i) (c .number-after .result .value)))
+loop-again c = (omega arith, simp length-set (c .before .before .before .loop .inv .1))
 
 returns-2 : tie.Need-returns-2 Inv-loop μ-loop
 returns-2 c = omega arith
@@ -53,7 +53,7 @@ signed-at-spec =
     loop-holds
     number-after-requires
     mul-numbers
-    array-write-numbers
+    array-set-from-numbers
     add-i
     loop-less
     loop-again
