@@ -10,4 +10,5 @@ pub mod Height
 pub mod Unique
 pub mod Order
 pub mod Surface
+pub mod Figures
 pub mod Numbered
