@@ -184,15 +184,16 @@ fn lightened(test: Test, gm: u64, off: Totals, on: Totals) -> Answer
     ensures { λ r. ⌜ paper r ≡ lightened test off on gm ⌝ }
 {
     let aboard = test.weight + on.weight;
-    if aboard <= off.weight {
-        return refused(Refusal::NO_LIGHT_WEIGHT, 0);
-    }
+    let taken_off = off.weight;
     let added = test.weight * test.km + on.vertical;
     let deducted = test.weight * gm + test.free_surface + off.vertical;
+    if aboard <= taken_off {
+        return refused(Refusal::NO_LIGHT_WEIGHT, 0);
+    }
     if added < deducted {
         return refused(Refusal::LIGHT_MOMENT_NEGATIVE, 0);
     }
-    let weight = aboard - off.weight;
+    let weight = aboard - taken_off;
     let vertical_moment = added - deducted;
     let vcg = arithmetic::rounded_up(vertical_moment, weight);
     Answer::Found(LightShip {

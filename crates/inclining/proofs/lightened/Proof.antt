@@ -9,23 +9,21 @@ use Rattle.inclining.proofs.Lightening.{no-weight, moment-below, found}
 use Rattle.inclining.proofs.lightened.Statement.{statement}
 use Rattle.inclining.proofs.lightened.Tie as tie
 
+-- where the tests begin
+abbrev start : tie.After-struct-known7 → tie.Start
+start c = c .before .before .before .before .before .before .before
+
 add-aboard : tie.Need-add-aboard
 add-aboard c = search needs
 
-refused-requires : tie.Need-refused-requires
-refused-requires c κs = search needs
-
-returns : tie.Need-returns
-returns c = ap paper (c .refused .ensures) ∙ no-weight _ _ _ _ (c .before .if1 .taken)
-
 mul-added : tie.Need-mul-added
 mul-added c =
-    let so = c .before .before .before .before .before .pre .0 in
+    let so = c .before .before .before .pre .0 in
     product-fits (so .weight-most) (so .km-most) tt
 
 add-added : tie.Need-add-added
 add-added c =
-    let so = c .before .before .before .before .before .before .pre in
+    let so = c .before .before .before .before .pre in
     omega (arith, mul-le-mul (so .0 .weight-most) (so .0 .km-most), so .3 .vertical-most)
 
 mul-deducted : tie.Need-mul-deducted
@@ -37,13 +35,22 @@ add-deducted c = search needs
 add-deducted-2 : tie.Need-add-deducted-2
 add-deducted-2 c = search needs
 
+refused-requires : tie.Need-refused-requires
+refused-requires c κs = search needs
+
+returns : tie.Need-returns
+returns c =
+    let s = start (c .before .before) .args in
+    ap paper (c .refused .ensures) ∙ no-weight (s .test) (s .off) (s .on) (s .gm) (c .before .if1 .taken)
+
 refused-requires-2 : tie.Need-refused-requires-2
 refused-requires-2 c κs = search needs
 
 returns-2 : tie.Need-returns-2
 returns-2 c =
-    let some = c .before .before .before .before .before .before .before .if1 .left in
-    ap paper (c .refused2 .ensures) ∙ moment-below _ _ _ _ (omega arith) (c .before .if2 .taken)
+    let some = c .before .before in
+    let s = start (some .before) .args in
+    ap paper (c .refused2 .ensures) ∙ moment-below (s .test) (s .off) (s .on) (s .gm) (some .if1 .left) (c .before .if2 .taken)
 
 sub-weight : tie.Need-sub-weight
 sub-weight c = search needs
@@ -53,21 +60,22 @@ rounded-up-requires c κs = search needs
 
 returns-3 : tie.Need-returns-3
 returns-3 c =
-    let some = c .before .before .before .before .before .before .before .before .if1 .left in
-    found _ _ _ _ (omega arith) (omega arith) refl refl (c .rounded-up .ensures)
+    let some = c .before .before in
+    let s = start (some .before) .args in
+    found (s .test) (s .off) (s .on) (s .gm) (some .if1 .left) (c .before .if2 .left) refl refl (c .rounded-up .ensures)
 
 pub lightened-spec : {M : Type 1} → statement M
 lightened-spec =
     tie.close
     (tie.spec
     add-aboard
-    refused-requires
-    returns
     mul-added
     add-added
     mul-deducted
     add-deducted
     add-deducted-2
+    refused-requires
+    returns
     refused-requires-2
     returns-2
     sub-weight
