@@ -2,8 +2,8 @@
 --     Told, found-told        the tests were passed, and the light ship is the definition's, in whole numbers
 --     written                 what the table of GMs holds
 -- Assumes nothing.
-use mathlib.Core.Path.{_≡_, refl, sym, ap, _∙_}
-use mathlib.Core.Bool.{true, false}
+use mathlib.Core.Path.{_≡_, sym, ap, _∙_}
+use mathlib.Core.Bool.{false}
 use mathlib.Core.List.{List}
 use Prim.Native.Nat.{ℕ, _-_, _/_, _≤_, _<_}
 use native.Mathlib.Omega.{arith}
@@ -16,13 +16,13 @@ use Rattle.arithmetic.specs.Rounding.{roundedUp}
 use Rattle.arithmetic.specs.Signed.{isNegative}
 use Rattle.arithmetic.proofs.Crossing.{less-whole}
 use Rattle.arithmetic.proofs.Tests.{by-test, never}
-use Rattle.ranges.specs.Outcome.{answered, leftWith}
+use Rattle.ranges.specs.Outcome.{Outcome, answered, leftWith}
 use Rattle.ranges.specs.Refusals.{outOfRange, wrongSize, noLightWeight, lightMomentNegative}
 use Rattle.ranges.specs.Sizes.{shiftWidth}
 use Rattle.ranges.proofs.Outcomes.{answer-same, not-refused, with-answered}
 use Rattle.loading.specs.Items.{totalsOfItems}
 use Rattle.loading.specs.declared.Totals.{Totals}
-use Rattle.inclining.specs.Inclining.{shiftTable, offTable, onTable, gmTable, count, outside, inclinedOf, MakesLightShip}
+use Rattle.inclining.specs.Inclining.{shiftTable, offTable, onTable, gmTable, Inclined, count, outside, inclinedOf, tableAfter, MakesLightShip}
 use Rattle.inclining.specs.Light.{lightWeight, lightMoment, lightShip, lightened}
 use Rattle.inclining.specs.Measured.{shiftsOf, measuredGM, ownGMs}
 use Rattle.inclining.specs.Private.Heeling.{laidOver}
@@ -69,6 +69,10 @@ module _ (test : Test) (off on : Totals) (gm : ℕ) where
       }
 
 -- ---- the call
+left-found : (o : Outcome Inclined) (was : List ℕ) {i : Inclined} → o ≡ answered i → tableAfter o was ≡ laidOver (i .gms) was
+unfolding leftWith
+left-found o was e = ap (λ o. tableAfter o was) e
+
 module _ (test : Test) (shifts : List ℕ) (off on : List ℤ) where
   pub record Told (room : ℕ) (ship : LightShip) : Type 0 where
     pub sizes : Sized (length shifts) (length off) (length on) room
@@ -76,8 +80,8 @@ module _ (test : Test) (shifts : List ℕ) (off on : List ℤ) where
     pub light : Lightened test (totalsOfItems off) (totalsOfItems on) (measuredGM test (shiftsOf shifts)) ship
 
   pub found-told : {gms after : List ℕ} {ship : LightShip} → MakesLightShip test shifts off on gms after (Found ship) → Told (length gms) ship × (after ≡ laidOver (ownGMs test (shiftsOf shifts)) gms)
-  unfolding inclinedOf leftWith
-  found-told {gms} made =
+  unfolding inclinedOf
+  found-told {gms} {ship} made =
       let whole = with-answered (λ i. i .light) (inclinedOf test shifts off on (length gms)) (sym (made .answer-is)) in
       let s = not-refused wrongSize shiftTable (whole .1) in
       let f = not-refused wrongSize offTable (s .1) in
@@ -86,11 +90,11 @@ module _ (test : Test) (shifts : List ℕ) (off on : List ℤ) where
       let p = not-refused outOfRange (outside test shifts off on) (r .1) in
       let lit = with-answered (λ ship. record { gms = ownGMs test (shiftsOf shifts); light = ship }) (lightened test (totalsOfItems off) (totalsOfItems on) (measuredGM test (shiftsOf shifts))) (p .1) in
       let told = lightened-told test (totalsOfItems off) (totalsOfItems on) (measuredGM test (shiftsOf shifts)) (lit .1) in
-      let same = whole .2 ∙ ap (λ i. i .light) (lit .2) in (
+      let same : ship ≡ lit .0 = whole .2 ∙ ap (λ i. i .light) (lit .2) in (
         record {
           sizes = record { shifts-fit = not-false _ (s .0); off-fits = not-false _ (f .0); on-fits = not-false _ (n .0); room-enough = ltb-false (length gms) (length shifts / shiftWidth) (r .0) };
           in-range = inside test shifts off on (ltb-false (outside test shifts off on) (count test shifts off on) (p .0));
           light = rw same told;
         },
-        made .left ∙ ap (λ o. leftWith (λ i. i .gms) o gms) (whole .1) ∙ ap (λ i. laidOver (i .gms) gms) (lit .2),
+        made .left ∙ left-found (inclinedOf test shifts off on (length gms)) gms (whole .1) ∙ ap (λ i. laidOver (i .gms) gms) (lit .2),
       )

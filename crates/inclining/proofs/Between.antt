@@ -4,7 +4,7 @@
 --     extreme                       of some numbers one is the first of all, in any order that has every two in it
 --     least-below, greatest-above   so it lies between the least and the greatest of them
 -- Assumes nothing.
-use mathlib.Core.Path.{_≡_, refl, sym, subst}
+use mathlib.Core.Path.{_≡_, sym, subst}
 use mathlib.Core.List.{List, [], _∷_}
 use mathlib.Core.Logic.{_⊎_, inl, inr, ⊎-elim}
 use Prim.Native.Nat.{ℕ, zero, suc, _+_, _-_, _*_, _/_, _≤_, _<_}
@@ -17,9 +17,9 @@ use Rattle.arithmetic.proofs.Tests.{less-or-not, same-or-other}
 use Rattle.ranges.specs.Sizes.{shiftWidth}
 use Rattle.loading.specs.Total.{total}
 use Rattle.inclining.specs.Measured.{Shift, shiftsOf, unroundedGM, measuredGM, ownGMs}
-use Rattle.inclining.specs.Private.Heeling.{heelingBy, TestInRange, ShiftInRange, ShiftsInRange}
+use Rattle.inclining.specs.Private.Heeling.{TestInRange, ShiftInRange, ShiftsInRange}
 use Rattle.inclining.specs.declared.Test.{Test}
-use Rattle.inclining.proofs.Shifts.{Every, each-in-range, heeling-in-range, shift-count, own-length}
+use Rattle.inclining.proofs.Shifts.{Every, each-in-range, heeling-in-range, shift-count}
 
 -- ---- the fraction
 pub measured-down : (test : Test) (shifts : List Shift) → 0 < unroundedGM test shifts .bottom → RoundedDown (unroundedGM test shifts .top) (unroundedGM test shifts .bottom) (measuredGM test shifts)

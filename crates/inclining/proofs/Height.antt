@@ -3,14 +3,12 @@
 --     kg-not-below        it is never below the KG of the unrounded GM
 --     MoreSurface, more-surface     with more free surface at the test there is the same GM and weight, never a greater moment, and never a greater KG
 -- Assumes nothing.
-use mathlib.Core.Path.{_≡_, refl, sym, ap, ap₂, subst, _∙_}
-use mathlib.Core.List.{List}
-use Prim.Native.Nat.{ℕ, _+_, _-_, _*_, _≤_, _<_}
+use mathlib.Core.Path.{_≡_, refl, sym, ap, subst, _∙_}
+use Prim.Native.Nat.{ℕ, _+_, _-_, _*_, _≤_}
 use native.Mathlib.Nat.{add-zero, mul-le-mul-left}
 use native.Mathlib.Omega.{arith}
 use lib.IntN.{ℤ, pos, _-ℤ_}
 use lib.Signed.{_≤ℤ_}
-use Rattle.arithmetic.specs.Rounding.{roundedUp}
 use Rattle.arithmetic.proofs.Integer.{solveℤ}
 use Rattle.arithmetic.proofs.Polynomial.{_:+_, _:*_, :-_}
 use Rattle.arithmetic.proofs.Ring.{ring}

@@ -10,7 +10,7 @@ use Prim.Native.Nat.{ℕ, suc, _+_, _-_, _*_, _≤_, _<_}
 use native.Mathlib.Omega.{arith}
 use borrow.Author.Tests.{le-leb, lt-leb, ltb-true, ltb-false}
 use lib.Dec.{ltb}
-use lib.IntN.{ℤ, pos, negℤ, natAbs, _-ℤ_}
+use lib.IntN.{pos, negℤ, natAbs, _-ℤ_}
 use lib.Signed.{leZ}
 use Rattle.arithmetic.specs.Rounding.{roundedUp}
 use Rattle.arithmetic.specs.Signed.{isNegative}

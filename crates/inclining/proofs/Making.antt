@@ -5,9 +5,9 @@
 --     kept                     a refusal before that: nothing is written
 --     declined, made           20 or 21; and the light ship, with each shift's GM in the table
 -- Assumes nothing.
-use mathlib.Core.Path.{_≡_, refl, sym, ap, _∙_}
+use mathlib.Core.Path.{_≡_, refl, ap, _∙_}
 use mathlib.Core.List.{List}
-use Prim.Native.Nat.{ℕ, _*_, _/_, _≤_, _<_}
+use Prim.Native.Nat.{ℕ, _*_, _≤_, _<_}
 use native.Mathlib.Nat.{mul-le-mul, mul-le-mul-left}
 use native.Mathlib.Omega.{arith}
 use lib.IntN.{ℤ}
@@ -28,7 +28,7 @@ use Rattle.inclining.specs.declared.Heeling.{Heeling}
 use Rattle.inclining.specs.declared.LightShip.{LightShip}
 use Rattle.inclining.specs.declared.Test.{Test}
 use Rattle.inclining.proofs.Sized.{Sized, sized}
-use Rattle.inclining.proofs.Trying.{Inside, inside, test-in-range, shifts-in-range, off-fits, on-fits, then-lightened}
+use Rattle.inclining.proofs.Trying.{inside, test-in-range, shifts-in-range, off-fits, on-fits, then-lightened}
 
 -- by the length over the deflection, and the deflection is not 0
 pub righting-most : {test : Test} {h : Heeling} → TestInRange test → HeelingInRange h → test .weight * gmBy test h ≤ mostRighting

@@ -9,10 +9,10 @@ use mathlib.Core.List.{List, map}
 use Prim.Native.Nat.{ℕ, _+_, _-_, _/_, _≤_, _<_}
 use native.Mathlib.Omega.{arith}
 use lib.IntN.{ℤ, pos}
-use lib.ListN.{length, length-map}
+use lib.ListN.{length}
 use Rattle.arithmetic.specs.Rounding.{roundedUp}
 use Rattle.ranges.specs.Fields.{item, inclining, shift}
-use Rattle.ranges.specs.Outcome.{Outcome, answered, refused, answerWith}
+use Rattle.ranges.specs.Outcome.{Outcome, refused, answerWith}
 use Rattle.ranges.specs.Outside.{firstOutside}
 use Rattle.ranges.specs.Sizes.{shiftWidth}
 use Rattle.loading.specs.Items.{totalsOfItems}

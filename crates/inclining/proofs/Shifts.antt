@@ -11,19 +11,18 @@ use mathlib.Core.Path.{_≡_, refl, sym, ap, ap₂, subst, _∙_}
 use mathlib.Core.List.{List, [], _∷_, _++_, map}
 use Prim.{Unit}
 use Prim.Native.Nat.{ℕ, zero, suc, _+_, _*_, _/_, _%_, _≤_, _<_}
-use native.Mathlib.Nat.{add-assoc, add-zero, mul-le-mul, mul-suc}
+use native.Mathlib.Nat.{add-zero, mul-le-mul}
 use native.Mathlib.Omega.{arith}
 use lib.IntN.{pos}
 use lib.ListN.{length, drop, take, getD, set, length-map, length-set, drop-of-length-le}
 use lib.Seq.{length-take-le, take-length}
 use Rattle.arithmetic.proofs.Parts.{drop-step, take-step, store-next}
-use Rattle.ranges.specs.Fields.{rangeOf, least, most, shift}
+use Rattle.ranges.specs.Fields.{rangeOf, most, shift}
 use Rattle.ranges.specs.Outside.{firstOutside}
 use Rattle.ranges.specs.Sizes.{shiftWidth}
 use Rattle.ranges.proofs.Facts.{all-within, within-whole}
 use Rattle.ranges.proofs.Records.{parts-inside}
 use Rattle.loading.specs.Total.{total}
-use Rattle.inclining.specs.Inclining.{shiftCount}
 use Rattle.inclining.specs.Measured.{Shift, shiftsOf, unroundedGM, measuredGM, ownGMs}
 use Rattle.inclining.specs.Private.Heeling.{heelingBy, heelingOf, shiftAt, gmBy, laidOver, ShiftInRange, ShiftsInRange, HeelingInRange, mostMoment, mostDeflection}
 use Rattle.inclining.specs.declared.Test.{Test}

@@ -1,7 +1,7 @@
 -- A larger free surface on the test.
 --     less-surface        what is answered with it is answered with a smaller one, and KG is not lower then
 -- Assumes nothing.
-use mathlib.Core.Path.{_≡_, refl, sym, subst}
+use mathlib.Core.Path.{_≡_, refl, subst}
 use mathlib.Core.Bool.{true}
 use mathlib.Core.List.{List, map}
 use Prim.Native.Nat.{ℕ, zero, suc, _%_, _≤_, _<_}

@@ -1,7 +1,6 @@
 -- What was walked is never more than the whole, which is small. Assumes nothing.
 use Prim.Native.Nat.{_-_}
 use native.Mathlib.Omega.{arith}
-use borrow.Author.Needs.{needs}
 use lib.ListN.{length}
 use Rattle.inclining.proofs.Shifts.{Heeled, heeled-none, heeled-more, heeled-all, whole-shift, here-in-range, moment-fits, deflection-fits}
 use Rattle.inclining.proofs.heeling_by.Statement.{statement}

@@ -1,9 +1,7 @@
 -- The front of the table is filled so far, and the rest is as it was. Assumes nothing.
 use Prim.Native.Nat.{_-_, _≤_}
-use mathlib.Core.Path.{_≡_, sym, ap, _∙_}
+use mathlib.Core.Path.{ap, _∙_}
 use native.Mathlib.Omega.{arith}
-use borrow.Author.Needs.{needs}
-use lib.ListN.{length}
 use Rattle.inclining.specs.Private.Heeling.{gmBy}
 use Rattle.inclining.proofs.Shifts.{Left, left-none, left-more, left-all, whole-there, there-in-range, heeling-one}
 use Rattle.inclining.proofs.leave_gms.Statement.{statement}
