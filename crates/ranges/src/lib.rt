@@ -242,14 +242,15 @@ pub fn whole_in_range(field: usize, n: u64) -> bool
 pub fn in_range(field: usize, v: i64) -> bool
     ensures { λ r. ⌜ r ≡ within (rangeOf field) v ⌝ }
 {
+    let bounds = bounds_of(field);
+    let size = arithmetic::magnitude(v);
     if arithmetic::is_negative(v) {
-        let bounds = bounds_of(field);
         if bounds.2 {
-            return arithmetic::magnitude(v) <= bounds.1;
+            return size <= bounds.1;
         }
         return false;
     }
-    whole_in_range(field, arithmetic::magnitude(v))
+    is_between(size, bounds.0, bounds.1)
 }
 
 // y's two sides.
