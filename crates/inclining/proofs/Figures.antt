@@ -8,7 +8,7 @@ use mathlib.Core.List.{List, [], _∷_, _++_, map}
 use lib.IntN.{ℤ, pos}
 use Rattle.arithmetic.specs.Choice.{if_then_else_}
 use Rattle.arithmetic.specs.Rounding.{roundedUp}
-use Rattle.ranges.specs.Fields.{within, most, rangeOf}
+use Rattle.ranges.specs.Fields.{within, most, testSurface}
 use Rattle.ranges.specs.Outcome.{Outcome, answered, refused, answerWith}
 use Rattle.ranges.specs.Outside.{outsideFrom, firstOutside, outsideThen}
 use Rattle.ranges.specs.Refusals.{outOfRange, wrongSize, noLightWeight, lightMomentNegative}
@@ -80,5 +80,5 @@ pub plainest-tests : map (λ f. inclinedOf (lying (f .0 .surface)) (f .0 .shifts
 unfolding inclinedOf shiftsFit wholeRecords outside outsideThen firstOutside outsideFrom within lightened lightWeight lightMoment Light.verticalMoment measuredGM unroundedGM ownGMs shiftsOf total totalℤ weight longitudinalMoment verticalMoment transverseMoment itemsOf tanksOf roundedUp answerWith if_then_else_
 plainest-tests = refl
 
-pub greatest-surface : most (rangeOf 29) ≡ mostTanks * mostSurface
+pub greatest-surface : most testSurface ≡ mostTanks * mostSurface
 greatest-surface = refl

@@ -17,7 +17,7 @@ use lib.IntN.{pos}
 use lib.ListN.{length, drop, take, getD, set, length-map, length-set, drop-of-length-le}
 use lib.Seq.{length-take-le, take-length}
 use Rattle.arithmetic.proofs.Parts.{drop-step, take-step, store-next}
-use Rattle.ranges.specs.Fields.{rangeOf, most, shift}
+use Rattle.ranges.specs.Fields.{most, shift, shiftWeight, shiftDistance, shiftDeflection}
 use Rattle.ranges.specs.Outside.{firstOutside}
 use Rattle.ranges.specs.Sizes.{shiftWidth}
 use Rattle.ranges.proofs.Facts.{all-within, within-whole}
@@ -55,8 +55,8 @@ unfolding shiftsOf
 each-in-range (weight ∷ distance ∷ deflection ∷ rest) inside =
     let parts = parts-inside shift (pos weight ∷ pos distance ∷ pos deflection ∷ []) (map pos rest) refl (omega (arith, length-map rest pos)) in
     let at = all-within shift (pos weight ∷ pos distance ∷ pos deflection ∷ []) (omega (arith, parts .0)) in
-    let d = within-whole (rangeOf 33) deflection (at 2 (omega arith)) in (
-      record { weight-most = within-whole (rangeOf 31) weight (at 0 (omega arith)) .1; distance-most = within-whole (rangeOf 32) distance (at 1 (omega arith)) .1; deflection-least = d .0; deflection-most = d .1 },
+    let d = within-whole shiftDeflection deflection (at 2 (omega arith)) in (
+      record { weight-most = within-whole shiftWeight weight (at 0 (omega arith)) .1; distance-most = within-whole shiftDistance distance (at 1 (omega arith)) .1; deflection-least = d .0; deflection-most = d .1 },
       each-in-range rest (omega (arith, parts .1, length-map rest pos)),
     )
 each-in-range (weight ∷ distance ∷ []) inside = _
@@ -71,7 +71,7 @@ heeling-one s so = record {
   deflection-most = omega (arith, so .deflection-most);
 }
 
-all-most : (shifts : List Shift) → Every ShiftInRange shifts → (heelingBy shifts .moment ≤ length shifts * (most (rangeOf 31) * most (rangeOf 32))) × (length shifts ≤ heelingBy shifts .deflection) × (heelingBy shifts .deflection ≤ length shifts * most (rangeOf 33))
+all-most : (shifts : List Shift) → Every ShiftInRange shifts → (heelingBy shifts .moment ≤ length shifts * (most shiftWeight * most shiftDistance)) × (length shifts ≤ heelingBy shifts .deflection) × (heelingBy shifts .deflection ≤ length shifts * most shiftDeflection)
 unfolding total
 all-most [] so = (omega arith, omega arith, omega arith)
 all-most (s ∷ shifts) so =

@@ -8,7 +8,7 @@ use Prim.Native.Nat.{ℕ, zero, suc, _%_, _≤_, _<_}
 use native.Mathlib.Omega.{arith}
 use lib.IntN.{ℤ, pos}
 use lib.ListN.{length, getD}
-use Rattle.ranges.specs.Fields.{_to_, within, most, rangeOf, inclining}
+use Rattle.ranges.specs.Fields.{_to_, within, most, inclining, testSurface}
 use Rattle.ranges.specs.Outside.{firstOutside}
 use Rattle.ranges.proofs.Facts.{all-within, all-inside, within-whole, whole-within}
 use Rattle.loading.specs.Items.{totalsOfItems}
@@ -42,7 +42,7 @@ module _ (test : Test) {surface surface′ : ℕ} (less : surface ≤ surface′
       each : (i : ℕ) → i < 4 → within (getD inclining (i % 4) (1 to 0)) (getD (map pos (numbersOf smaller)) i (pos 0)) ≡ true
       each zero h = at 0 (omega arith)
       each (suc zero) h = at 1 (omega arith)
-      each (suc (suc zero)) h = whole-within 0 (most (rangeOf 29)) surface (omega arith, omega (arith, within-whole (rangeOf 29) surface′ (at 2 (omega arith)) .1))
+      each (suc (suc zero)) h = whole-within 0 (most testSurface) surface (omega arith, omega (arith, within-whole testSurface surface′ (at 2 (omega arith)) .1))
       each (suc (suc (suc zero))) h = at 3 (omega arith)
       each (suc (suc (suc (suc i)))) h = absurd (omega arith)
 

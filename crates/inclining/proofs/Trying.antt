@@ -13,7 +13,7 @@ use lib.IntN.{ℤ, pos}
 use lib.ListN.{length, length-map}
 use Rattle.arithmetic.proofs.Choice.{chosen}
 use Rattle.arithmetic.proofs.Tests.{by-test}
-use Rattle.ranges.specs.Fields.{rangeOf, item, inclining, shift}
+use Rattle.ranges.specs.Fields.{item, inclining, shift, displacement, metacentre, testSurface, pendulum}
 use Rattle.ranges.specs.Outcome.{refused}
 use Rattle.ranges.specs.Outside.{firstOutside, outsideThen}
 use Rattle.ranges.specs.Refusals.{outOfRange, wrongSize}
@@ -83,13 +83,13 @@ module _ (test : Test) (shifts : List ℕ) (off on : List ℤ) where
   pub test-in-range : Inside → TestInRange test
   test-in-range so =
       let at = all-within inclining (map pos (numbersOf test)) (so .in-test) in
-      let w = within-whole (rangeOf 27) (test .weight) (at 0 (omega arith)) in
+      let w = within-whole displacement (test .weight) (at 0 (omega arith)) in
       record {
         weight-least = w .0;
         weight-most = w .1;
-        km-most = within-whole (rangeOf 28) (test .km) (at 1 (omega arith)) .1;
-        surface-most = within-whole (rangeOf 29) (test .«free_surface») (at 2 (omega arith)) .1;
-        pendulum-most = within-whole (rangeOf 30) (test .pendulum) (at 3 (omega arith)) .1;
+        km-most = within-whole metacentre (test .km) (at 1 (omega arith)) .1;
+        surface-most = within-whole testSurface (test .«free_surface») (at 2 (omega arith)) .1;
+        pendulum-most = within-whole pendulum (test .pendulum) (at 3 (omega arith)) .1;
       }
 
   module _ (room : ℕ) where

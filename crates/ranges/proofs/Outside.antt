@@ -5,12 +5,14 @@
 --     then-within, then-after                     of a table that others follow: a number outside stands in it, or further on
 --     then-inside                                 where none of so many numbers is outside: none of its own, and none of those that follow
 --     field-next, field-after-lt                  the field after a field
---     section, Walking                            a section of the fields, and the walk over it at place i, whose number is of a field of its record
+--     Walking                                     the walk over records of a section at place i, whose number is of a field of its record
 --     walking-none, walking-more                  before the first number; one number more, in the code's `i + 1`
 --     walking-here, walking-all                   at a number outside, and past the last
+--     section, section-length, section-at         a section of the fields by number
+--     given-length, given-at                      and one of ranges that are given
 -- Assumes nothing.
 use mathlib.Core.Path.{_≡_, refl, sym, ap, _∙_}
-use mathlib.Core.Bool.{true, false}
+use mathlib.Core.Bool.{Bool, true, false}
 use mathlib.Core.List.{List, [], _∷_}
 use Prim.Native.Nat.{ℕ, zero, suc, _+_, _%_, _≤_, _<_}
 use native.Mathlib.Nat.{zero-add, add-zero, mod-eq-of-lt, mod-self, mod-add-mod, zero-mod}
@@ -24,6 +26,7 @@ use Rattle.arithmetic.proofs.Choice.{chosen, if-either}
 use Rattle.arithmetic.proofs.Parts.{drop-step}
 use Rattle.arithmetic.proofs.Tests.{by-test}
 use Rattle.ranges.specs.Fields.{Range, _to_, within, fields, rangeOf}
+use Rattle.ranges.specs.Private.Bounds.{rangesOf}
 use Rattle.ranges.specs.Outside.{outsideFrom, firstOutside, outsideThen, fieldAfter}
 
 module _ (section : List Range) (table : List ℤ) (i : ℕ) where
@@ -93,38 +96,54 @@ pub field-after-lt : (k width : ℕ) → 0 < width → fieldAfter k width < widt
 unfolding fieldAfter
 field-after-lt k width h = if-either (λ n. n < width) (ltb (k + 1) width) (λ t. ltb-true (k + 1) width t) (λ t. h)
 
--- ---- the walk that the code makes
--- the fields of a table's records: `width` from number `first` on
+-- ---- the walk that the code makes, over records of a section's fields
+pub record Walking (section : List Range) (table : List ℤ) (i field : ℕ) : Type 0 where
+  pub in-record : field < length section
+  pub field-is : field ≡ i % length section
+  pub so-far : outsideFrom section i (drop i table) ≡ firstOutside section table
+
+module _ {section : List Range} {table : List ℤ} where
+  pub walking-none : 0 < length section → Walking section table 0 0
+  unfolding firstOutside
+  walking-none some = record { in-record = some; field-is = sym (zero-mod (length section)); so-far = refl }
+
+  module _ {i field : ℕ} (so : Walking section table i field) where
+    -- number i against the range of its field
+    against : {t : Bool} → within (getD section field (1 to 0)) (getD table i (pos 0)) ≡ t → within (getD section (i % length section) (1 to 0)) (getD table i (pos 0)) ≡ t
+    against e = ap (λ k. within (getD section k (1 to 0)) (getD table i (pos 0))) (sym (so .field-is)) ∙ e
+
+    pub walking-more : i < length table → within (getD section field (1 to 0)) (getD table i (pos 0)) ≡ true → {next : ℕ} → next ≡ fieldAfter field (length section) → Walking section table (i + 1) next
+    walking-more h e n = record {
+      in-record = rw n (field-after-lt field (length section) (omega (arith, so .in-record)));
+      field-is = n ∙ field-next i field (length section) (so .field-is) (so .in-record);
+      so-far = outside-step section table i h (against e) ∙ so .so-far;
+    }
+
+    pub walking-here : i < length table → within (getD section field (1 to 0)) (getD table i (pos 0)) ≡ false → i ≡ firstOutside section table
+    walking-here h e = sym (outside-here section table i h (against e)) ∙ so .so-far
+
+    pub walking-all : length table ≤ i → i ≡ firstOutside section table
+    walking-all h = sym (outside-end section table i h) ∙ so .so-far
+
+-- ---- a section of the fields: `width` from number `first` on
 abbrev pub section : ℕ → ℕ → List Range
 section first width = take width (drop first fields)
 
-pub record Walking (first width : ℕ) (table : List ℤ) (i field : ℕ) : Type 0 where
-  pub in-record : field < width
-  pub field-is : field ≡ i % width
-  pub so-far : outsideFrom (section first width) i (drop i table) ≡ firstOutside (section first width) table
+module _ (first width : ℕ) (fits : first + width ≤ length fields) where
+  pub section-length : length (section first width) ≡ width
+  section-length = length-take-le width (drop first fields) (omega (arith, length-drop first fields))
 
-module _ {first width : ℕ} {table : List ℤ} where
-  pub walking-none : 0 < width → Walking first width table 0 0
-  unfolding firstOutside
-  walking-none some = record { in-record = some; field-is = sym (zero-mod width); so-far = refl }
+  pub section-at : {field : ℕ} → field < length (section first width) → getD (section first width) field (1 to 0) ≡ rangeOf (first + field)
+  section-at {field} h = getD-take width (drop first fields) field (1 to 0) (omega (arith, section-length)) ∙ getD-drop first fields field (1 to 0)
 
-  module _ (fits : first + width ≤ length fields) {i field : ℕ} (so : Walking first width table i field) where
-    section-length : length (section first width) ≡ width
-    section-length = length-take-le width (drop first fields) (omega (arith, length-drop first fields))
+-- ---- ranges by the least and the greatest of each field
+pub given-length : (least greatest : List ℕ) → length greatest ≡ length least → length (rangesOf least greatest) ≡ length least
+given-length [] greatest e = refl
+given-length (a ∷ least) (b ∷ greatest) e = ap suc (given-length least greatest (omega arith))
+given-length (a ∷ least) [] e = absurd (omega arith)
 
-    range-is : getD (section first width) (i % length (section first width)) (1 to 0) ≡ rangeOf (first + field)
-    range-is =
-        rw (section-length, ← so .field-is) (getD-take width (drop first fields) field (1 to 0) (so .in-record) ∙ getD-drop first fields field (1 to 0))
-
-    pub walking-more : i < length table → within (rangeOf (first + field)) (getD table i (pos 0)) ≡ true → {next : ℕ} → next ≡ fieldAfter field width → Walking first width table (i + 1) next
-    walking-more h e n = record {
-      in-record = rw n (field-after-lt field width (omega (arith, so .in-record)));
-      field-is = n ∙ field-next i field width (so .field-is) (so .in-record);
-      so-far = outside-step (section first width) table i h (ap (λ r. within r (getD table i (pos 0))) range-is ∙ e) ∙ so .so-far;
-    }
-
-    pub walking-here : i < length table → within (rangeOf (first + field)) (getD table i (pos 0)) ≡ false → i ≡ firstOutside (section first width) table
-    walking-here h e = sym (outside-here (section first width) table i h (ap (λ r. within r (getD table i (pos 0))) range-is ∙ e)) ∙ so .so-far
-
-    pub walking-all : length table ≤ i → i ≡ firstOutside (section first width) table
-    walking-all h = sym (outside-end (section first width) table i h) ∙ so .so-far
+pub given-at : (least greatest : List ℕ) → length greatest ≡ length least → (field : ℕ) → field < length least → getD (rangesOf least greatest) field (1 to 0) ≡ getD least field 0 to getD greatest field 0
+given-at [] greatest e field h = absurd (omega arith)
+given-at (a ∷ least) (b ∷ greatest) e zero h = refl
+given-at (a ∷ least) (b ∷ greatest) e (suc field) h = given-at least greatest (omega arith) field (omega arith)
+given-at (a ∷ least) [] e field h = absurd (omega arith)

@@ -89,19 +89,35 @@ hopperWidth = 0 to 1_500 ∷ []
 abbrev pub hopperInterval : Range
 hopperInterval = 50 to 1_000
 
--- an inclining test: W and KM, "free surface 0..10,240,000,000 of the test, pendulum length 500..10,000 mm"
-abbrev pub inclining : List Range
-inclining = displacement ∷ metacentre ∷ 0 to 10_240_000_000 ∷ 500 to 10_000 ∷ []
-
--- "shifts of weight 1..20,000 kg, distance 1..16,000 mm and deflection 1..2,000 mm"
-abbrev pub shift : List Range
-shift = 1 to 20_000 ∷ 1 to 16_000 ∷ 1 to 2_000 ∷ []
-
 -- all fields by number: those of the file in its order, 0..4 particulars, 5 a half-breadth, 6..9 an item, 10..17 a tank; then 18..24 a row;
--- 25 a width and 26 the interval of a hopper; 27..30 an inclining test, 31..33 a shift
+-- 25 a width and 26 the interval of a hopper
 abbrev pub fields : List Range
-fields = particulars ++ halfBreadth ++ item ++ tank ++ rowRanges ++ hopperWidth ++ (hopperInterval ∷ []) ++ inclining ++ shift
+fields = particulars ++ halfBreadth ++ item ++ tank ++ rowRanges ++ hopperWidth ++ (hopperInterval ∷ [])
 
 -- no number is in the range of a field that there is not
 abbrev pub rangeOf : ℕ → Range
 rangeOf field = getD fields field (1 to 0)
+
+-- ---- the inclining test, whose ranges no other call looks up: "free surface 0..10,240,000,000 of the test, pendulum length 500..10,000 mm"
+abbrev pub testSurface : Range
+testSurface = 0 to 10_240_000_000
+
+abbrev pub pendulum : Range
+pendulum = 500 to 10_000
+
+-- W, KM, free surface, length
+abbrev pub inclining : List Range
+inclining = displacement ∷ metacentre ∷ testSurface ∷ pendulum ∷ []
+
+-- "shifts of weight 1..20,000 kg, distance 1..16,000 mm and deflection 1..2,000 mm"
+abbrev pub shiftWeight : Range
+shiftWeight = 1 to 20_000
+
+abbrev pub shiftDistance : Range
+shiftDistance = 1 to 16_000
+
+abbrev pub shiftDeflection : Range
+shiftDeflection = 1 to 2_000
+
+abbrev pub shift : List Range
+shift = shiftWeight ∷ shiftDistance ∷ shiftDeflection ∷ []

@@ -4,7 +4,7 @@ ghost use mathlib.Core.List.{map};
 ghost use lib.IntN.{pos};
 ghost use lib.ListN.{length, take, drop};
 ghost use Prim.Native.Nat.{_+_, _<_, _≤_};
-ghost use Rattle.ranges.specs.Private.Bounds.{boundsOf};
+ghost use Rattle.ranges.specs.Private.Bounds.{boundsOf, rangesOf};
 ghost use Rattle.ranges.specs.Fields.{_to_, within, rangeOf, fields, halfBreadth, item, tank, rowRanges, hopperWidth, inclining, shift};
 ghost use Rattle.ranges.specs.Limits.{limits};
 ghost use Rattle.ranges.specs.Outside.{fieldAfter, firstOutside, tooLong, badParticular};
@@ -126,11 +126,6 @@ pub const HOPPER_WIDTH: usize = ROW + ROW_WIDTH;
 
 pub const HOPPER_INTERVAL: usize = HOPPER_WIDTH + 1;
 
-// An inclining test, and a shift of weight in it.
-const INCLINING: usize = HOPPER_INTERVAL + 1;
-
-const SHIFT: usize = INCLINING + INCLINING_WIDTH;
-
 // The most intervals of length, n, and of draft, m; the greatest length, n·s, and the highest KM, in mm; the greatest displacement, in kg.
 pub const MOST_LENGTH_INTERVALS: u64 = 80;
 
@@ -209,13 +204,6 @@ fn bounds_of(field: usize) -> Bounds
         24 => Bounds(0, 1_600_000_000, FROM_0), // waterplane area
         25 => Bounds(0, 1_500, FROM_0), // hopper: width
         26 => Bounds(50, 1_000, FROM_0), // interval
-        27 => Bounds(1, MOST_DISPLACEMENT, FROM_0), // inclining test: displacement
-        28 => Bounds(0, HIGHEST_METACENTRE, FROM_0), // KM
-        29 => Bounds(0, 10_240_000_000, FROM_0), // free surface
-        30 => Bounds(500, 10_000, FROM_0), // pendulum length
-        31 => Bounds(1, 20_000, FROM_0), // shift: weight
-        32 => Bounds(1, 16_000, FROM_0), // distance
-        33 => Bounds(1, 2_000, FROM_0), // deflection
         _ => Bounds(1, 0, FROM_0),
     }
 }
@@ -242,15 +230,14 @@ pub fn whole_in_range(field: usize, n: u64) -> bool
 pub fn in_range(field: usize, v: i64) -> bool
     ensures { λ r. ⌜ r ≡ within (rangeOf field) v ⌝ }
 {
-    let bounds = bounds_of(field);
-    let size = arithmetic::magnitude(v);
     if arithmetic::is_negative(v) {
+        let bounds = bounds_of(field);
         if bounds.2 {
-            return size <= bounds.1;
+            return arithmetic::magnitude(v) <= bounds.1;
         }
         return false;
     }
-    is_between(size, bounds.0, bounds.1)
+    whole_in_range(field, arithmetic::magnitude(v))
 }
 
 // y's two sides.
@@ -314,14 +301,23 @@ pub fn hopper_width_outside(table: &[u64]) -> usize
 pub fn inclining_outside(numbers: &[u64]) -> usize
     ensures { λ r. ⌜ r ≡ firstOutside inclining (map pos (now (numbers .entry))) ⌝ }
 {
-    whole_outside(numbers, INCLINING, INCLINING_WIDTH)
+    let least = [1, 0, 0, 500];
+    let greatest = [
+        MOST_DISPLACEMENT,
+        HIGHEST_METACENTRE,
+        10_240_000_000,
+        10_000,
+    ];
+    given_outside(numbers, &least, &greatest)
 }
 
 // The place of the first number of a table of shifts out of range, or the table's length.
 pub fn shift_outside(table: &[u64]) -> usize
     ensures { λ r. ⌜ r ≡ firstOutside shift (map pos (now (table .entry))) ⌝ }
 {
-    whole_outside(table, SHIFT, SHIFT_WIDTH)
+    let least = [1, 1, 1];
+    let greatest = [20_000, 16_000, 2_000];
+    given_outside(table, &least, &greatest)
 }
 
 // The place of the first number of a table of rows out of range, or the table's length.
@@ -401,6 +397,23 @@ fn whole_outside(table: &[u64], first: usize, width: usize) -> usize
             return i;
         }
         field = field_after(field, width);
+        i += 1;
+    }
+    i
+}
+
+// The same by the least and the greatest number of each field, for records whose ranges no other call looks up.
+fn given_outside(table: &[u64], least: &[u64], greatest: &[u64]) -> usize
+    requires { ⌜ (0 < length (now least)) × (length (now greatest) ≡ length (now least)) ⌝ }
+    ensures { λ r. ⌜ r ≡ firstOutside (rangesOf (now (least .entry)) (now (greatest .entry))) (map pos (now (table .entry))) ⌝ }
+{
+    let mut i = 0;
+    let mut field = 0;
+    while i < table.len() {
+        if !is_between(table[i], least[field], greatest[field]) {
+            return i;
+        }
+        field = field_after(field, least.len());
         i += 1;
     }
     i

@@ -7,7 +7,7 @@ use mathlib.Core.Bool.{true, not}
 use lib.IntN.{ℤ, pos}
 use lib.ListN.{length, drop, getD}
 use Rattle.arithmetic.specs.Choice.{if_then_else_}
-use Rattle.ranges.specs.Fields.{rangeOf, least, most, item, zRange, shift}
+use Rattle.ranges.specs.Fields.{least, most, item, zRange, shift, displacement, metacentre, testSurface, pendulum, shiftWeight, shiftDistance, shiftDeflection}
 use Rattle.ranges.specs.Outside.{firstOutside}
 use Rattle.ranges.specs.Sizes.{shiftWidth}
 use Rattle.loading.specs.Private.Aboard.{mostInItems}
@@ -50,19 +50,19 @@ gmBy test h = h .moment * test .pendulum / (test .weight * h .deflection)
 abbrev pub laidOver : List ℕ → List ℕ → List ℕ
 laidOver numbers was = numbers ++ drop (length numbers) was
 
--- ---- within the ranges, whose fields have numbers: 27 to 30 are the test's, 31 to 33 a shift's
+-- ---- within the ranges
 pub record TestInRange (test : Test) : Type 0 where
-  pub weight-least : least (rangeOf 27) ≤ test .weight
-  pub weight-most : test .weight ≤ most (rangeOf 27)
-  pub km-most : test .km ≤ most (rangeOf 28)
-  pub surface-most : test .«free_surface» ≤ most (rangeOf 29)
-  pub pendulum-most : test .pendulum ≤ most (rangeOf 30)
+  pub weight-least : least displacement ≤ test .weight
+  pub weight-most : test .weight ≤ most displacement
+  pub km-most : test .km ≤ most metacentre
+  pub surface-most : test .«free_surface» ≤ most testSurface
+  pub pendulum-most : test .pendulum ≤ most pendulum
 
 pub record ShiftInRange (s : Shift) : Type 0 where
-  pub weight-most : s .weight ≤ most (rangeOf 31)
-  pub distance-most : s .distance ≤ most (rangeOf 32)
-  pub deflection-least : least (rangeOf 33) ≤ s .deflection
-  pub deflection-most : s .deflection ≤ most (rangeOf 33)
+  pub weight-most : s .weight ≤ most shiftWeight
+  pub distance-most : s .distance ≤ most shiftDistance
+  pub deflection-least : least shiftDeflection ≤ s .deflection
+  pub deflection-most : s .deflection ≤ most shiftDeflection
 
 -- the shifts of a table: whole records, as many as there may be, each number in its range
 pub record ShiftsInRange (shifts : List ℕ) : Type 0 where
@@ -73,14 +73,14 @@ pub record ShiftsInRange (shifts : List ℕ) : Type 0 where
 
 -- what so many shifts come to
 abbrev pub mostMoment : ℕ
-mostMoment = most shiftCount * (most (rangeOf 31) * most (rangeOf 32))
+mostMoment = most shiftCount * (most shiftWeight * most shiftDistance)
 
 abbrev pub mostDeflection : ℕ
-mostDeflection = most shiftCount * most (rangeOf 33)
+mostDeflection = most shiftCount * most shiftDeflection
 
 pub record HeelingInRange (h : Heeling) : Type 0 where
   pub moment-most : h .moment ≤ mostMoment
-  pub deflection-least : least (rangeOf 33) ≤ h .deflection
+  pub deflection-least : least shiftDeflection ≤ h .deflection
   pub deflection-most : h .deflection ≤ mostDeflection
 
 -- a list of items: whole records, no more than there may be, each number in its range
@@ -95,4 +95,4 @@ pub record TotalsInRange (totals : Totals) : Type 0 where
 
 -- W · GM is the moment by the length over the deflection, and no more than the moment by the length
 abbrev pub mostRighting : ℕ
-mostRighting = mostMoment * most (rangeOf 30)
+mostRighting = mostMoment * most pendulum

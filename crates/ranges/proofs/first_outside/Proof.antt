@@ -7,13 +7,14 @@ use borrow.Author.Tests.{not-true, not-false}
 use lib.IntN.{pos}
 use lib.ListN.{length, getD}
 use Rattle.arithmetic.proofs.Crossing.{heard}
-use Rattle.ranges.specs.Fields.{within, rangeOf}
-use Rattle.ranges.proofs.Outside.{Walking, walking-none, walking-more, walking-here, walking-all}
+use Rattle.ranges.specs.Fields.{_to_, within, rangeOf}
+use Rattle.ranges.specs.Outside.{fieldAfter}
+use Rattle.ranges.proofs.Outside.{Walking, walking-none, walking-more, walking-here, walking-all, section, section-length, section-at}
 use Rattle.ranges.proofs.first_outside.Statement.{statement}
 use Rattle.ranges.proofs.first_outside.Tie as tie
 
 abbrev Inv-loop : tie.InvT-loop
-Inv-loop table first width i₀ field₀ i field = (i ≤ length table) × Walking first width table i field
+Inv-loop table first width i₀ field₀ i field = (i ≤ length table) × Walking (section first width) table i field
 
 abbrev μ-loop : tie.MeasureT-loop
 μ-loop table first width i₀ field₀ i field = length table - i
@@ -22,17 +23,22 @@ abbrev μ-loop : tie.MeasureT-loop
 tested :
     (c : tie.After-in-range Inv-loop μ-loop)
     → let l = c .before .before .before in
-    within (rangeOf (l .before .args .first + l .loop .field)) (getD (l .before .args .table .now) (l .loop .i) (pos 0)) ≡ c .in-range .result
+    let s = l .before .args in
+    within (getD (section (s .first) (s .width)) (l .loop .field) (1 to 0)) (getD (s .table .now) (l .loop .i) (pos 0)) ≡ c .in-range .result
 tested c =
     let l = c .before .before .before in
-    let test = within (rangeOf (l .before .args .first + l .loop .field)) in
-    ap test (sym (c .before .number-at .ensures)) ∙ sym (heard test (record { sfits = c .before .number-at .ok }) (c .in-range .ensures))
+    let s = l .before .args in
+    let test = within (rangeOf (s .first + l .loop .field)) in
+    ap (λ r. within r (getD (s .table .now) (l .loop .i) (pos 0))) (section-at (s .first) (s .width) (l .before .pre .1) (l .loop .inv .1 .in-record))
+    ∙ ap test (sym (c .before .number-at .ensures)) ∙ sym (heard test (record { sfits = c .before .number-at .ok }) (c .in-range .ensures))
 
 loop-holds : tie.Need-loop-holds Inv-loop μ-loop
-loop-holds c = (omega arith, walking-none (c .pre .0))
+loop-holds c = (omega arith, walking-none (omega (arith, section-length (c .args .first) (c .args .width) (c .pre .1))))
 
 add-in-range : tie.Need-add-in-range Inv-loop μ-loop
-add-in-range c = omega arith
+add-in-range c =
+    let s = c .before .before in
+    omega (arith, section-length (s .args .first) (s .args .width) (s .pre .1))
 
 number-at-requires : tie.Need-number-at-requires Inv-loop μ-loop
 number-at-requires c κs = search needs
@@ -43,7 +49,7 @@ in-range-requires c κs = search needs
 returns : tie.Need-returns Inv-loop μ-loop
 returns c =
     let l = c .before .before .before .before in
-    walking-here (l .before .pre .1) (l .loop .inv .1) (omega arith) (tested (c .before) ∙ not-true _ (c .if1 .taken))
+    walking-here (l .loop .inv .1) (omega arith) (tested (c .before) ∙ not-true _ (c .if1 .taken))
 
 field-after-requires : tie.Need-field-after-requires Inv-loop μ-loop
 field-after-requires c κs = search needs
@@ -57,10 +63,11 @@ loop-less c = omega arith
 loop-again : tie.Need-loop-again Inv-loop μ-loop
 loop-again c =
     let l = c .before .before .before .before .before in
-    (omega arith, walking-more (l .before .pre .1) (l .loop .inv .1) (omega arith) (tested (c .before .before) ∙ not-false _ (c .before .if1 .left)) (c .field-after .ensures))
+    let width = section-length (l .before .args .first) (l .before .args .width) (l .before .pre .1) in
+    (omega arith, walking-more (l .loop .inv .1) (omega arith) (tested (c .before .before) ∙ not-false _ (c .before .if1 .left)) (c .field-after .ensures ∙ ap (fieldAfter (l .loop .field)) (sym width)))
 
 returns-2 : tie.Need-returns-2 Inv-loop μ-loop
-returns-2 c = let l = c .before in walking-all (l .before .pre .1) (l .loop .inv .1) (omega arith)
+returns-2 c = let l = c .before in walking-all (l .loop .inv .1) (omega arith)
 
 pub first-outside-spec : {M : Type 1} → statement M
 first-outside-spec =
