@@ -156,7 +156,7 @@ module _ {test : Test} {shifts : List ℕ} {off on : List ℤ} {gms after : List
   formulas =
       let light = told .light in
       let gm = measuredGM test (shiftsOf shifts) in (
-        ap pos (light .weight-is) ∙ sym (less-over _ _ (omega (arith, light .some))) ∙ sym (weight-is test (totalsOfItems off) (totalsOfItems on) gm),
+        ap pos (light .weight-is) ∙ sym (less-over _ _ (omega (arith, light .some))) ∙ sym (weight-is test (totalsOfItems off) (totalsOfItems on)),
         rw (light .gm-is) (ap pos (light .moment-is) ∙ sym (less-over _ _ (light .not-below)) ∙ sym (moment-is test (totalsOfItems off) (totalsOfItems on) gm)),
         light .vcg-is,
       )

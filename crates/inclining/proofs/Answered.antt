@@ -36,20 +36,20 @@ use Rattle.inclining.proofs.Trying.{Inside, inside}
 -- ---- the light ship
 pub record Lightened (test : Test) (off on : Totals) (gm : ℕ) (ship : LightShip) : Type 0 where
   pub gm-is : ship .«measured_gm» ≡ gm
-  pub some : off .weight < aboard test off on gm
-  pub not-below : deducted test off on gm ≤ added test off on gm
-  pub weight-is : ship .weight ≡ aboard test off on gm - off .weight
-  pub moment-is : ship .«vertical_moment» ≡ added test off on gm - deducted test off on gm
+  pub some : off .weight < aboard test on
+  pub not-below : deducted test off gm ≤ added test on
+  pub weight-is : ship .weight ≡ aboard test on - off .weight
+  pub moment-is : ship .«vertical_moment» ≡ added test on - deducted test off gm
   pub vcg-is : ship .vcg ≡ roundedUp (ship .«vertical_moment») (ship .weight)
 
 module _ (test : Test) (off on : Totals) (gm : ℕ) where
-  some-told : leZ (lightWeight test off on gm) (pos 0) ≡ false → off .weight < aboard test off on gm
+  some-told : leZ (lightWeight test off on) (pos 0) ≡ false → off .weight < aboard test on
   some-told e =
-      by-test (ltb (off .weight) (aboard test off on gm)) (λ t. ltb-true (off .weight) (aboard test off on gm) t)
-      (λ t. never (sym e ∙ ap (λ v. leZ v (pos 0)) (weight-is test off on gm) ∙ none-left (aboard test off on gm) (off .weight) (ltb-false (off .weight) (aboard test off on gm) t)))
+      by-test (ltb (off .weight) (aboard test on)) (λ t. ltb-true (off .weight) (aboard test on) t)
+      (λ t. never (sym e ∙ ap (λ v. leZ v (pos 0)) (weight-is test off on) ∙ none-left (aboard test on) (off .weight) (ltb-false (off .weight) (aboard test on) t)))
 
-  not-below-told : isNegative (lightMoment test off on gm) ≡ false → deducted test off on gm ≤ added test off on gm
-  not-below-told e = less-whole (added test off on gm) (deducted test off on gm) (sym (ap isNegative (moment-is test off on gm)) ∙ e)
+  not-below-told : isNegative (lightMoment test off on gm) ≡ false → deducted test off gm ≤ added test on
+  not-below-told e = less-whole (added test on) (deducted test off gm) (sym (ap isNegative (moment-is test off on gm)) ∙ e)
 
   pub lightened-told : {ship : LightShip} → lightened test off on gm ≡ answered ship → Lightened test off on gm ship
   unfolding lightened
@@ -63,8 +63,8 @@ module _ (test : Test) (off on : Totals) (gm : ℕ) where
         gm-is = sym (ap (λ (s : LightShip). s .«measured_gm») same);
         some = some;
         not-below = not-below;
-        weight-is = sym (ap (λ (s : LightShip). s .weight) same) ∙ ap natAbs (weight-is test off on gm) ∙ size-is (aboard test off on gm) (off .weight) (omega (arith, some));
-        moment-is = sym (ap (λ (s : LightShip). s .«vertical_moment») same) ∙ ap natAbs (moment-is test off on gm) ∙ size-is (added test off on gm) (deducted test off on gm) not-below;
+        weight-is = sym (ap (λ (s : LightShip). s .weight) same) ∙ ap natAbs (weight-is test off on) ∙ size-is (aboard test on) (off .weight) (omega (arith, some));
+        moment-is = sym (ap (λ (s : LightShip). s .«vertical_moment») same) ∙ ap natAbs (moment-is test off on gm) ∙ size-is (added test on) (deducted test off gm) not-below;
         vcg-is = rw (← same);
       }
 
@@ -93,7 +93,7 @@ module _ (test : Test) (shifts : List ℕ) (off on : List ℤ) where
       let same : ship ≡ lit .0 = whole .2 ∙ ap (λ i. i .light) (lit .2) in (
         record {
           sizes = record { shifts-fit = not-false _ (s .0); off-fits = not-false _ (f .0); on-fits = not-false _ (n .0); room-enough = ltb-false (length gms) (length shifts / shiftWidth) (r .0) };
-          in-range = inside test shifts off on (ltb-false (outside test shifts off on) (count test shifts off on) (p .0));
+          in-range = inside test shifts off on (ltb-false (outside test shifts off on) (count shifts off on) (p .0));
           light = rw same told;
         },
         made .left ∙ left-found (inclinedOf test shifts off on (length gms)) gms (whole .1) ∙ ap (λ i. laidOver (i .gms) gms) (lit .2),

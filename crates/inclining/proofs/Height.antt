@@ -27,7 +27,7 @@ module _ {test : Test} {off on : Totals} {gm : ℕ} {ship : LightShip} (so : Lig
   kg-up = rw (so .vcg-is) (up-of (ship .«vertical_moment») (ship .weight) (omega (arith, so .weight-is, so .some)))
 
   -- the unrounded moment as a difference
-  unrounded-is : (f : Fraction) → unroundedMoment test off on f .top ≡ pos (f .bottom * added test off on gm) -ℤ pos (test .weight * f .top + f .bottom * (off .vertical + test .«free_surface»))
+  unrounded-is : (f : Fraction) → unroundedMoment test off on f .top ≡ pos (f .bottom * added test on) -ℤ pos (test .weight * f .top + f .bottom * (off .vertical + test .«free_surface»))
   unrounded-is f =
       solveℤ 7 (λ w k b a n o s. w :* (k :* b :+ :- a) :+ b :* (n :+ :- o :+ :- s)) (λ w k b a n o s. b :* (w :* k :+ n) :+ :- (w :* a :+ b :* (o :+ s))) refl
       (pos (test .weight)) (pos (test .km)) (pos (f .bottom)) (pos (f .top)) (pos (on .vertical)) (pos (off .vertical)) (pos (test .«free_surface»))
@@ -35,13 +35,13 @@ module _ {test : Test} {off on : Totals} {gm : ℕ} {ship : LightShip} (so : Lig
   pub kg-not-below : (f : Fraction) → gm * f .bottom ≤ f .top → unroundedMoment test off on f .top ≤ℤ pos (f .bottom * ship .weight * ship .vcg)
   kg-not-below f below =
       let b = f .bottom in
-      let sum : added test off on gm ≡ ship .«vertical_moment» + deducted test off on gm = omega (arith, so .moment-is, so .not-below) in
-      let scaled : b * added test off on gm ≡ b * (ship .«vertical_moment» + deducted test off on gm) = ap (λ n. b * n) sum in
+      let sum : added test on ≡ ship .«vertical_moment» + deducted test off gm = omega (arith, so .moment-is, so .not-below) in
+      let scaled : b * added test on ≡ b * (ship .«vertical_moment» + deducted test off gm) = ap (λ n. b * n) sum in
       let up = mul-le-mul-left b (kg-up .low) in
       let down = mul-le-mul-left (test .weight) below in
       rw (unrounded-is f)
-      (subst (λ n. (pos (b * added test off on gm) -ℤ pos (test .weight * f .top + b * (off .vertical + test .«free_surface»))) ≤ℤ pos n) (add-zero (b * ship .weight * ship .vcg))
-      (difference-le (b * added test off on gm) (test .weight * f .top + b * (off .vertical + test .«free_surface»)) (b * ship .weight * ship .vcg) 0
+      (subst (λ n. (pos (b * added test on) -ℤ pos (test .weight * f .top + b * (off .vertical + test .«free_surface»))) ≤ℤ pos n) (add-zero (b * ship .weight * ship .vcg))
+      (difference-le (b * added test on) (test .weight * f .top + b * (off .vertical + test .«free_surface»)) (b * ship .weight * ship .vcg) 0
       (rw scaled (simp ring (omega (arith, up, simp ring at down))))))
 
 -- ---- a larger free surface

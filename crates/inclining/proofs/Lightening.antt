@@ -48,41 +48,43 @@ module _ (a b : ℕ) where
   size-is h = ap natAbs (less-over a b h)
 
 -- ---- the light ship
-module _ (test : Test) (off on : Totals) (gm : ℕ) where
-  -- kg
-  abbrev pub aboard : ℕ
-  aboard = test .weight + on .weight
+-- kg: the ship of the test with what is put on
+abbrev pub aboard : Test → Totals → ℕ
+aboard test on = test .weight + on .weight
 
-  -- kg·mm
-  abbrev pub added : ℕ
-  added = test .weight * test .km + on .vertical
+-- kg·mm: what is added, with what is put on, and what is deducted, with what is taken off
+abbrev pub added : Test → Totals → ℕ
+added test on = test .weight * test .km + on .vertical
 
-  abbrev pub deducted : ℕ
-  deducted = test .weight * gm + test .«free_surface» + off .vertical
+abbrev pub deducted : Test → Totals → ℕ → ℕ
+deducted test off gm = test .weight * gm + test .«free_surface» + off .vertical
 
-  pub weight-is : lightWeight test off on gm ≡ pos aboard -ℤ pos (off .weight)
+module _ (test : Test) (off on : Totals) where
+  pub weight-is : lightWeight test off on ≡ pos (aboard test on) -ℤ pos (off .weight)
   unfolding lightWeight
   weight-is =
       solveℤ 3 (λ w o n. w :+ :- o :+ n) (λ w o n. w :+ n :+ :- o) refl (pos (test .weight)) (pos (off .weight)) (pos (on .weight))
 
-  pub moment-is : lightMoment test off on gm ≡ pos added -ℤ pos deducted
-  unfolding lightMoment verticalMoment
-  moment-is =
-      solveℤ 6 (λ w k g s o n. w :* (k :+ :- g) :+ :- s :+ :- o :+ n) (λ w k g s o n. w :* k :+ n :+ :- (w :* g :+ s :+ o)) refl
-      (pos (test .weight)) (pos (test .km)) (pos gm) (pos (test .«free_surface»)) (pos (off .vertical)) (pos (on .vertical))
+  module _ (gm : ℕ) where
+    pub moment-is : lightMoment test off on gm ≡ pos (added test on) -ℤ pos (deducted test off gm)
+    unfolding lightMoment verticalMoment
+    moment-is =
+        solveℤ 6 (λ w k g s o n. w :* (k :+ :- g) :+ :- s :+ :- o :+ n) (λ w k g s o n. w :* k :+ n :+ :- (w :* g :+ s :+ o)) refl
+        (pos (test .weight)) (pos (test .km)) (pos gm) (pos (test .«free_surface»)) (pos (off .vertical)) (pos (on .vertical))
 
-  pub no-weight : aboard ≤ off .weight → refused noLightWeight 0 ≡ lightened test off on gm
-  unfolding lightened
-  no-weight h = sym (rw (weight-is, none-left aboard (off .weight) h) (simp chosen))
-
-  module _ (some : off .weight < aboard) where
-    pub moment-below : added < deducted → refused lightMomentNegative 0 ≡ lightened test off on gm
+    pub no-weight : aboard test on ≤ off .weight → refused noLightWeight 0 ≡ lightened test off on gm
     unfolding lightened
-    moment-below h = sym (rw (weight-is, moment-is, some-left aboard (off .weight) some, below added deducted h) (simp chosen))
+    no-weight h = sym (rw (weight-is, none-left (aboard test on) (off .weight) h) (simp chosen))
 
-    pub found : deducted ≤ added → {weight moment vcg : ℕ} → weight ≡ aboard - off .weight → moment ≡ added - deducted → vcg ≡ roundedUp moment weight
-        → answered (record { «measured_gm» = gm; weight = weight; «vertical_moment» = moment; vcg = vcg }) ≡ lightened test off on gm
-    unfolding lightened
-    found h w m k =
-        rw (k, m, w)
-        (sym (rw (weight-is, moment-is, some-left aboard (off .weight) some, not-below added deducted h, size-is aboard (off .weight) (omega arith), size-is added deducted h) (simp chosen)))
+    module _ (some : off .weight < aboard test on) where
+      pub moment-below : added test on < deducted test off gm → refused lightMomentNegative 0 ≡ lightened test off on gm
+      unfolding lightened
+      moment-below h =
+          sym (rw (weight-is, moment-is, some-left (aboard test on) (off .weight) some, below (added test on) (deducted test off gm) h) (simp chosen))
+
+      pub found : deducted test off gm ≤ added test on → {weight moment vcg : ℕ} → weight ≡ aboard test on - off .weight → moment ≡ added test on - deducted test off gm → vcg ≡ roundedUp moment weight
+          → answered (record { «measured_gm» = gm; weight = weight; «vertical_moment» = moment; vcg = vcg }) ≡ lightened test off on gm
+      unfolding lightened
+      found h w m k =
+          rw (k, m, w)
+          (sym (rw (weight-is, moment-is, some-left (aboard test on) (off .weight) some, not-below (added test on) (deducted test off gm) h, size-is (aboard test on) (off .weight) (omega arith), size-is (added test on) (deducted test off gm) h) (simp chosen)))

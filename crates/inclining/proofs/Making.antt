@@ -56,7 +56,7 @@ module _ (test : Test) (shifts : List ℕ) (off on : List ℤ) (gms : List ℕ) 
     pub sizes : Sized (length shifts) (length off) (length on) (length gms)
     pub so-far : inclined test shifts off on ≡ inclinedOf test shifts off on (length gms)
 
-  pub tried : {table place : ℕ} → table ≡ wrongTable (length shifts) (length off) (length on) (length gms) → 4 ≤ table → place ≡ outside test shifts off on → count test shifts off on ≤ place → Tried
+  pub tried : {table place : ℕ} → table ≡ wrongTable (length shifts) (length off) (length on) (length gms) → 4 ≤ table → place ≡ outside test shifts off on → count shifts off on ≤ place → Tried
   tried t all p none =
       let size = sized (length shifts) (length off) (length on) (length gms) (omega (arith, t)) in
       let so = inside test shifts off on (omega (arith, p)) in

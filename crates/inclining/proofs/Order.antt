@@ -57,7 +57,7 @@ module _ {test : Test} {shifts : List ℕ} {off on : List ℤ} {gms after : List
 
   -- ---- 4, by where the first number outside stands in each table
   module _ (sizes : Sized (length shifts) (length off) (length on) (length gms)) where
-    number-refused : {place : ℕ} → place ≡ outside test shifts off on → place < count test shifts off on → answer ≡ refusedWith 4 place
+    number-refused : {place : ℕ} → place ≡ outside test shifts off on → place < count shifts off on → answer ≡ refusedWith 4 place
     number-refused {place} e h = refused-with 4 place (refused-range test shifts off on (length gms) sizes e h)
 
     pub test-number : (i : ℕ) → i ≡ firstOutside inclining (map pos (numbersOf test)) → i < 4 → answer ≡ refusedWith 4 i
@@ -79,7 +79,7 @@ module _ {test : Test} {shifts : List ℕ} {off on : List ℤ} {gms after : List
       abbrev gm : ℕ
       gm = measuredGM test (shiftsOf shifts)
 
-      none-outside : count test shifts off on ≤ outside test shifts off on
+      none-outside : count shifts off on ≤ outside test shifts off on
       none-outside = omega (arith, on-outside test shifts off on refl (so .in-test) refl (so .in-table) refl (so .in-off) refl, so .in-on)
 
       comes-to : {o : Outcome LightShip} → o ≡ lightened test (totalsOfItems off) (totalsOfItems on) gm → answerWith (λ ship. record { gms = ownGMs test (shiftsOf shifts); light = ship }) o ≡ inclinedOf test shifts off on (length gms)
@@ -87,20 +87,20 @@ module _ {test : Test} {shifts : List ℕ} {off on : List ℤ} {gms after : List
           ap (answerWith {B = Inclined} (λ ship. record { gms = ownGMs test (shiftsOf shifts); light = ship })) e
           ∙ then-lightened test shifts off on (length gms) sizes refl none-outside
 
-      pub weight-refused : aboard test (totalsOfItems off) (totalsOfItems on) gm ≤ totalsOfItems off .weight → answer ≡ refusedWith 20 0
+      pub weight-refused : aboard test (totalsOfItems on) ≤ totalsOfItems off .weight → answer ≡ refusedWith 20 0
       unfolding answerWith
       weight-refused h = refused-with 20 0 (comes-to (no-weight test (totalsOfItems off) (totalsOfItems on) gm h))
 
-      module _ (some : totalsOfItems off .weight < aboard test (totalsOfItems off) (totalsOfItems on) gm) where
-        pub moment-refused : added test (totalsOfItems off) (totalsOfItems on) gm < deducted test (totalsOfItems off) (totalsOfItems on) gm → answer ≡ refusedWith 21 0
+      module _ (some : totalsOfItems off .weight < aboard test (totalsOfItems on)) where
+        pub moment-refused : added test (totalsOfItems on) < deducted test (totalsOfItems off) gm → answer ≡ refusedWith 21 0
         unfolding answerWith
         moment-refused h = refused-with 21 0 (comes-to (moment-below test (totalsOfItems off) (totalsOfItems on) gm some h))
 
-        pub else-found : deducted test (totalsOfItems off) (totalsOfItems on) gm ≤ added test (totalsOfItems off) (totalsOfItems on) gm → (ship : LightShip) × (answer ≡ Found ship)
+        pub else-found : deducted test (totalsOfItems off) gm ≤ added test (totalsOfItems on) → (ship : LightShip) × (answer ≡ Found ship)
         unfolding answerWith
         else-found h =
-            let weight = aboard test (totalsOfItems off) (totalsOfItems on) gm - totalsOfItems off .weight in
-            let moment = added test (totalsOfItems off) (totalsOfItems on) gm - deducted test (totalsOfItems off) (totalsOfItems on) gm in
+            let weight = aboard test (totalsOfItems on) - totalsOfItems off .weight in
+            let moment = added test (totalsOfItems on) - deducted test (totalsOfItems off) gm in
             let ship : LightShip = record { «measured_gm» = gm; weight = weight; «vertical_moment» = moment; vcg = roundedUp moment weight } in
             let e = comes-to (found test (totalsOfItems off) (totalsOfItems on) gm some h refl refl refl) in
             (ship, paper-injective answer (Found ship) (made .answer-is ∙ ap (answerWith (λ i. i .light)) (sym e)))

@@ -72,7 +72,7 @@ module _ (test : Test) (shifts : List ℕ) (off on : List ℤ) where
     pub in-off : length off ≤ firstOutside item off
     pub in-on : length on ≤ firstOutside item on
 
-  pub inside : count test shifts off on ≤ outside test shifts off on → Inside
+  pub inside : count shifts off on ≤ outside test shifts off on → Inside
   unfolding outside
   inside all =
       let first = then-inside inclining (map pos (numbersOf test)) in-shifts (length shifts + (length off + length on)) all in
@@ -128,12 +128,12 @@ module _ (test : Test) (shifts : List ℕ) (off on : List ℤ) where
         (λ e. at-wrong (wrong-shifts (length shifts) (length off) (length on) room e) (sym (simp (e, chosen))))
 
     module _ (size : Sizes) {place : ℕ} (e : place ≡ outside test shifts off on) where
-      pub refused-range : place < count test shifts off on → refused outOfRange place ≡ inclinedOf test shifts off on room
+      pub refused-range : place < count shifts off on → refused outOfRange place ≡ inclinedOf test shifts off on room
       unfolding inclinedOf
       refused-range h =
-          sym (rw (← e) (simp (size .shifts-fit, size .off-fits, size .on-fits, le-ltb room (length shifts / shiftWidth) (size .room-enough), lt-ltb place (count test shifts off on) h, chosen)))
+          sym (rw (← e) (simp (size .shifts-fit, size .off-fits, size .on-fits, le-ltb room (length shifts / shiftWidth) (size .room-enough), lt-ltb place (count shifts off on) h, chosen)))
 
-      pub then-lightened : count test shifts off on ≤ place → inclined test shifts off on ≡ inclinedOf test shifts off on room
+      pub then-lightened : count shifts off on ≤ place → inclined test shifts off on ≡ inclinedOf test shifts off on room
       unfolding inclinedOf
       then-lightened h =
-          sym (rw (← e) (simp (size .shifts-fit, size .off-fits, size .on-fits, le-ltb room (length shifts / shiftWidth) (size .room-enough), le-ltb place (count test shifts off on) h, chosen)))
+          sym (rw (← e) (simp (size .shifts-fit, size .off-fits, size .on-fits, le-ltb room (length shifts / shiftWidth) (size .room-enough), le-ltb place (count shifts off on) h, chosen)))

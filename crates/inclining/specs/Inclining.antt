@@ -54,12 +54,12 @@ pub record Inclined : Type 0 where
   pub gms : List ℕ
   pub light : LightShip
 
-module _ (test : Test) (shifts : List ℕ) (off on : List ℤ) where
-  -- how many numbers there are on the sheet
-  abbrev pub count : ℕ
-  count = length inclining + (length shifts + (length off + length on))
+-- how many numbers there are on the sheet
+abbrev pub count : List ℕ → List ℤ → List ℤ → ℕ
+count shifts off on = length inclining + (length shifts + (length off + length on))
 
-  -- the position of the first of them out of its range, or their count
+module _ (test : Test) (shifts : List ℕ) (off on : List ℤ) where
+  -- the position of the first number out of its range, or how many there are
   unfoldable pub outside : ℕ
   outside =
       outsideThen inclining (map pos (numbersOf test))
@@ -80,7 +80,7 @@ module _ (test : Test) (shifts : List ℕ) (off on : List ℤ) where
       else if not (itemsFit (length off)) then refused wrongSize offTable
       else if not (itemsFit (length on)) then refused wrongSize onTable
       else if ltb room (length shifts / shiftWidth) then refused wrongSize gmTable
-      else if ltb outside count then refused outOfRange outside
+      else if ltb outside (count shifts off on) then refused outOfRange outside
       else inclined
 
 -- the paper's number and values for each answer

@@ -29,26 +29,28 @@ unroundedMoment test off on gm = record {
   bottom = gm .bottom;
 }
 
--- by the totals of the items "to take off and to put on", and GM
-module _ (test : Test) (off on : Totals) (gm : ℕ) where
+-- by the totals of the items "to take off and to put on"
+module _ (test : Test) (off on : Totals) where
   unfoldable pub lightWeight : ℤ
   lightWeight = pos (test .weight) -ℤ pos (off .weight) +ℤ pos (on .weight)
 
-  unfoldable pub lightMoment : ℤ
-  lightMoment = verticalMoment test gm -ℤ pos (off .vertical) +ℤ pos (on .vertical)
+  -- and by GM
+  module _ (gm : ℕ) where
+    unfoldable pub lightMoment : ℤ
+    lightMoment = verticalMoment test gm -ℤ pos (off .vertical) +ℤ pos (on .vertical)
 
-  -- "light weight, its moment and KG rounded up"
-  abbrev pub lightShip : LightShip
-  lightShip = record {
-    «measured_gm» = gm;
-    weight = natAbs lightWeight;
-    «vertical_moment» = natAbs lightMoment;
-    vcg = roundedUp (natAbs lightMoment) (natAbs lightWeight);
-  }
+    -- "light weight, its moment and KG rounded up"
+    abbrev pub lightShip : LightShip
+    lightShip = record {
+      «measured_gm» = gm;
+      weight = natAbs lightWeight;
+      «vertical_moment» = natAbs lightMoment;
+      vcg = roundedUp (natAbs lightMoment) (natAbs lightWeight);
+    }
 
-  -- "20 when the light weight is 0 or less, 21 when its moment is negative, both at 0"
-  unfoldable pub lightened : Outcome LightShip
-  lightened =
-      if leZ lightWeight (pos 0) then refused noLightWeight 0
-      else if isNegative lightMoment then refused lightMomentNegative 0
-      else answered lightShip
+    -- "20 when the light weight is 0 or less, 21 when its moment is negative, both at 0"
+    unfoldable pub lightened : Outcome LightShip
+    lightened =
+        if leZ lightWeight (pos 0) then refused noLightWeight 0
+        else if isNegative lightMoment then refused lightMomentNegative 0
+        else answered lightShip
