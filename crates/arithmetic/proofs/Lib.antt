@@ -12,6 +12,7 @@ pub mod Polynomial
 pub mod Integer
 pub mod Whole
 pub mod Crossing
+pub mod Differences
 pub mod Floats
 pub mod Parts
 pub mod Room

@@ -3,15 +3,16 @@
 --     part-end, rest-end           a part from a place to the end is the rest; nothing lies after it
 --     store-next                   a list filled up to i, one store on
 --     stored-front, stored-behind    values stored one after another from a place on: the list up to their end, and up to the place
+--     Stored, stored-none, stored-more, stored-all, stored-full     a list that a loop stores to from its front: so far, one store on, and at the end
 --     part-filled                  a part lent from a on came back filled in front: the whole is filled so much further
 -- Assumes nothing.
-use mathlib.Core.Path.{_≡_, sym, ap, _∙_}
+use mathlib.Core.Path.{_≡_, refl, sym, ap, _∙_}
 use mathlib.Core.List.{List, [], _∷_, _++_, append-assoc, append-nil}
 use Prim.Native.Nat.{ℕ, _+_, _-_, _<_, _≤_}
 use native.Mathlib.Numerals.{add-one}
 use native.Mathlib.Omega.{arith}
-use lib.ListN.{length, take, drop, getD, set, length-append, length-drop, drop-of-length-le}
-use lib.Seq.{take-suc, drop-cons, take-all, take-at, drop-at, drop-drop, set-at, sets, sets-eq, length-take-le}
+use lib.ListN.{length, take, drop, getD, set, length-append, length-drop, length-set, drop-of-length-le}
+use lib.Seq.{take-suc, drop-cons, take-all, take-length, take-at, drop-at, drop-drop, set-at, sets, sets-eq, length-take-le}
 
 module _ {A : Type 0} where
   pub drop-step : (s : List A) (i : ℕ) (d : A) → i < length s → drop i s ≡ getD s i d ∷ drop (i + 1) s
@@ -56,3 +57,31 @@ module _ {A : Type 0} where
       let front : take a s ≡ done = rw (e, take-at done (drop a was) a l) in
       let behind : drop a s ≡ drop a was = rw (e, drop-at done (drop a was) a l) in
       rw (f, rest-end a s, part-end a s, front, behind, append-nil, drop-drop, append-assoc)
+
+module _ {A : Type 0} (whole was : List A) where
+  -- the first i of the whole stand in front of what was there
+  pub record Stored (l : List A) (i : ℕ) : Type 0 where
+    pub as-long : length l ≡ length was
+    pub stored-is : l ≡ take i whole ++ drop i was
+
+  pub stored-none : Stored was 0
+  stored-none = record { as-long = refl; stored-is = refl }
+
+  module _ {l : List A} {i : ℕ} (so : Stored l i) where
+    pub stored-more : i < length whole → i < length was → (d : A) {v : A} → v ≡ getD whole i d → Stored (set l i v) (i + 1)
+    stored-more h room d {v} e = record {
+      as-long = length-set l i v ∙ so .as-long;
+      stored-is =
+          ap (λ l. set l i v) (so .stored-is)
+          ∙ store-next (take i whole) was i v (length-take-le i whole (omega arith)) room
+          ∙ ap (λ l. l ++ drop (i + 1) was) (ap (λ k. take i whole ++ (k ∷ [])) e ∙ sym (take-step whole i d h));
+    }
+
+    pub stored-all : i ≡ length whole → l ≡ whole ++ drop (length whole) was
+    stored-all e =
+        so .stored-is ∙ ap (λ k. take k whole ++ drop k was) e ∙ ap (λ l. l ++ drop (length whole) was) (take-length whole)
+
+    pub stored-full : i ≡ length whole → length was ≡ length whole → l ≡ whole
+    stored-full e full =
+        let h : length was ≤ length whole = omega arith in
+        stored-all e ∙ ap (λ l. whole ++ l) (drop-of-length-le was h) ∙ append-nil whole

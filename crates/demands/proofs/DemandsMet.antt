@@ -31,7 +31,7 @@ use Rattle.loading.proofs.Demand3.{ConditionOver}
 use Rattle.loading.proofs.Unique.{paper-injective}
 use Rattle.tally.specs.History.{taken}
 use Rattle.tally.proofs.Histories.{totals-after, answers-alike, always-sound, usable-at-once, condition-after, stepped-on}
-use Rattle.rugulosca.specs.Told.{placeAfter, valueAfter}
+use Rattle.rugulosca.specs.Told.{placeAfter}
 use Rattle.rugulosca.proofs.Apart.{apart}
 use Rattle.demands.specs.Conditioned.{Conditioned, IsCondition}
 use Rattle.demands.specs.Demands.{Demand1, Demand2, Demand3, Demands}

@@ -3,18 +3,16 @@
 --     widths-most, squares-most, cubes-most      and on the way, width by width
 --     A-by-sides, M-by-sides, I-by-sides         A and I are what both sides give, M what starboard gives less what port gives
 -- Assumes nothing.
-use mathlib.Core.Path.{_≡_, refl, sym, ap, ap₂, _∙_}
+use mathlib.Core.Path.{_≡_, sym, ap, _∙_}
 use mathlib.Core.List.{List}
 use Prim.Native.Nat.{ℕ, _+_, _-_, _*_, _^_, _≤_}
 use native.Mathlib.Nat.{le-trans, pow-le-pow-left}
 use native.Mathlib.Omega.{arith}
-use lib.IntN.{ℤ, pos, negsuc, _+ℤ_, _-ℤ_, _*ℤ_}
+use lib.IntN.{pos, _-ℤ_}
 use lib.ListN.{length, getD}
 use Rattle.ranges.specs.Fields.{rangeOf, most}
-use Rattle.arithmetic.proofs.Integer.{solveℤ}
-use Rattle.arithmetic.proofs.Polynomial.{con, _:+_, _:*_, :-_}
-use Rattle.simpson.specs.Curve.{curve, curveℤ}
-use Rattle.simpson.proofs.Curves.{curve-plus, curveℤ-same, curveℤ-plus, curveℤ-times, pos-curve}
+use Rattle.simpson.specs.Curve.{curve}
+use Rattle.simpson.proofs.Curves.{curve-plus, curveℤ-less}
 use Rattle.simpson.proofs.Moments.{curve-le}
 use Rattle.simpson.proofs.Sweep.{Swept, swept-le}
 use Rattle.hoppers.specs.Private.Side.{SideInRange, sideOf, mostWidths, mostSquares, mostCubes}
@@ -62,10 +60,5 @@ module _ (port starboard : List ℕ) (as-many : length port ≡ length starboard
   pub M-by-sides : pos (sideOf starboard .squares) -ℤ pos (sideOf port .squares) ≡ M port starboard
   unfolding M
   M-by-sides =
-      let q² : ℕ → ℤ = λ i. pos (getD starboard i 0 ^ 2) in
-      let p² : ℕ → ℤ = λ i. pos (getD port i 0 ^ 2) in
-      ap₂ _-ℤ_ (ap (λ k. pos (curve (k - 1) (λ i. getD starboard i 0 ^ 2))) (sym as-many) ∙ pos-curve n _) (pos-curve n _)
-      ∙ solveℤ 2 (λ q p. q :+ :- p) (λ q p. q :+ con (negsuc 0) :* p) refl (curveℤ n q²) (curveℤ n p²)
-      ∙ sym (curveℤ-same n (λ i. q² i -ℤ p² i) (λ i. q² i +ℤ negsuc 0 *ℤ p² i) (λ i l. solveℤ 2 (λ q p. q :+ :- p) (λ q p. q :+ con (negsuc 0) :* p) refl (q² i) (p² i))
-      ∙ curveℤ-plus n q² (λ i. negsuc 0 *ℤ p² i)
-      ∙ ap (λ x. curveℤ n q² +ℤ x) (curveℤ-times n (negsuc 0) p²))
+      ap (λ k. pos (curve (k - 1) (λ i. getD starboard i 0 ^ 2)) -ℤ pos (curve n (λ i. getD port i 0 ^ 2))) (sym as-many)
+      ∙ sym (curveℤ-less n (λ i. getD starboard i 0 ^ 2) (λ i. getD port i 0 ^ 2))

@@ -15,7 +15,7 @@ use Rattle.arithmetic.proofs.Ring.{ring}
 use Rattle.arithmetic.proofs.Rounding.{RoundedUp, up-of, up-mono}
 use Rattle.loading.specs.Fraction.{Fraction}
 use Rattle.loading.specs.declared.Totals.{Totals}
-use Rattle.loading.proofs.Difference.{difference-le}
+use Rattle.arithmetic.proofs.Differences.{difference-le}
 use Rattle.inclining.specs.Light.{withSurface, unroundedMoment}
 use Rattle.inclining.specs.declared.LightShip.{LightShip}
 use Rattle.inclining.specs.declared.Test.{Test}

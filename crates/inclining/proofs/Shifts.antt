@@ -8,15 +8,14 @@
 --     Left, left-none, left-more, left-all          the walk that leaves each one's GM
 -- Assumes nothing.
 use mathlib.Core.Path.{_≡_, refl, sym, ap, ap₂, subst, _∙_}
-use mathlib.Core.List.{List, [], _∷_, _++_, map}
+use mathlib.Core.List.{List, [], _∷_, map}
 use Prim.{Unit}
 use Prim.Native.Nat.{ℕ, zero, suc, _+_, _*_, _/_, _%_, _≤_, _<_}
 use native.Mathlib.Nat.{add-zero, mul-le-mul}
 use native.Mathlib.Omega.{arith}
 use lib.IntN.{pos}
-use lib.ListN.{length, drop, take, getD, set, length-map, length-set, drop-of-length-le}
-use lib.Seq.{length-take-le, take-length}
-use Rattle.arithmetic.proofs.Parts.{drop-step, take-step, store-next}
+use lib.ListN.{length, drop, getD, set, length-map, drop-of-length-le}
+use Rattle.arithmetic.proofs.Parts.{drop-step, Stored, stored-none, stored-more, stored-all}
 use Rattle.ranges.specs.Fields.{most, shift, shiftWeight, shiftDistance, shiftDeflection}
 use Rattle.ranges.specs.Outside.{firstOutside}
 use Rattle.ranges.specs.Sizes.{shiftWidth}
@@ -185,12 +184,11 @@ module _ (test : Test) (s was : List ℕ) where
   pub record Left (gms : List ℕ) (i : ℕ) : Type 0 where
     pub in-table : shiftWidth * i ≤ length s
     pub rest : Every ShiftInRange (shiftsOf (drop (shiftWidth * i) s))
-    pub as-long : length gms ≡ length was
-    pub left-is : gms ≡ take i own ++ drop i was
+    pub stored : Stored own was gms i
 
   module _ (so : ShiftsInRange s) where
     pub left-none : Left was 0
-    left-none = record { in-table = omega arith; rest = each-in-range s (omega (arith, so .in-range)); as-long = refl; left-is = refl }
+    left-none = record { in-table = omega arith; rest = each-in-range s (omega (arith, so .in-range)); stored = stored-none own was }
 
     module _ (room : length s / shiftWidth ≤ length was) {gms : List ℕ} {i : ℕ} (w : Left gms i) where
       module _ (more : i < length s / shiftWidth) where
@@ -212,14 +210,8 @@ module _ (test : Test) (s was : List ℕ) where
             record {
               in-table = omega arith;
               rest = subst (λ k. Every ShiftInRange (shiftsOf (drop k s))) on (there .1);
-              as-long = length-set gms i v ∙ w .as-long;
-              left-is =
-                  ap (λ l. set l i v) (w .left-is)
-                  ∙ store-next (take i own) was i v (length-take-le i own (omega (arith, own-length test s))) (omega arith)
-                  ∙ ap (λ l. l ++ drop (i + 1) was) (ap (λ k. take i own ++ (k ∷ [])) next ∙ sym (take-step own i 0 (omega (arith, own-length test s))));
+              stored = stored-more own was (w .stored) (omega (arith, own-length test s)) (omega arith) 0 next;
             }
 
       pub left-all : i ≡ length s / shiftWidth → gms ≡ laidOver own was
-      left-all e =
-          let all : i ≡ length own = e ∙ sym (own-length test s) in
-          w .left-is ∙ ap (λ k. take k own ++ drop k was) all ∙ ap (λ l. l ++ drop (length own) was) (take-length own)
+      left-all e = stored-all own was (w .stored) (e ∙ sym (own-length test s))

@@ -29,7 +29,7 @@ use Rattle.loading.specs.Stability.{freeSurface, draft, km, gm}
 use Rattle.loading.specs.Table.{Table, hull, Place, on, between, placeOf}
 use Rattle.loading.specs.declared.Reading.{Reading}
 use Rattle.loading.specs.declared.Reading.the-variants.{Lesser, StraightLine}
-use Rattle.loading.proofs.Difference.{difference-le}
+use Rattle.arithmetic.proofs.Differences.{difference-le}
 use Rattle.loading.proofs.Flotation.{line-above}
 use Rattle.loading.proofs.Lowering.{pass-mono}
 use Rattle.loading.proofs.Moments.{condition-is}

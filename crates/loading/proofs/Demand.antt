@@ -18,7 +18,7 @@ use Rattle.loading.specs.Stability.{passes, draft, kmAt, gmAt, freeSurfa
 use Rattle.loading.specs.Private.Afloat.{Within}
 use Rattle.loading.specs.Straight.{Greatest}
 use Rattle.loading.specs.Table.{Table, placeOf, draftOf}
-use Rattle.loading.proofs.Difference.{difference-le}
+use Rattle.arithmetic.proofs.Differences.{difference-le}
 use Rattle.loading.proofs.Drafts.{draft-is-greatest, heavier-draft}
 use Rattle.loading.proofs.Laws.{Sound, Usable}
 use Rattle.loading.proofs.Lowering.{lower-weight, lower-vertical, lower-transverse, pass-mono}

@@ -1,6 +1,5 @@
 -- The laws of the loading condition, for every crate above it.
 pub mod Adding
-pub mod Difference
 pub mod Places
 pub mod Drafts
 pub mod Laws

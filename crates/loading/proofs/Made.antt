@@ -4,22 +4,26 @@
 -- Assumes nothing.
 use mathlib.Core.Path.{_≡_}
 use mathlib.Core.Bool.{Bool}
-use Prim.Native.Nat.{ℕ, _+_, _/_}
+use Prim.Native.Nat.{ℕ, _+_, _/_, _≤_}
 use native.Mathlib.Omega.{arith}
 use lib.IntN.{ℤ}
 use Rattle.arithmetic.specs.Rounding.{roundedUp}
+use Rattle.arithmetic.proofs.Differences.{Less, over, under, less, difference-size}
 use Rattle.loading.specs.Stability.{heelOf, passes}
-use Rattle.loading.specs.Private.Steady.{gmOf, transverseOf, passesWith, conditionWith, Steady, Moderate}
+use Rattle.loading.specs.Private.Steady.{aboveZero, gmOf, transverseOf, passesWith, conditionWith, Steady, Moderate}
 use Rattle.loading.specs.declared.Aboard.{Aboard}
 use Rattle.loading.specs.declared.Heel.{Heel}
-use Rattle.loading.proofs.Difference.{difference-size, difference-above}
+
+above-most : {a b : ℕ} {z : ℤ} → Less a b z → aboveZero z ≤ a
+above-most (over n e) = omega arith
+above-most (under n e) = omega arith
 
 pub moderate : {a : Aboard} {km : ℕ} {gm my : ℤ} → Steady a km → gm ≡ gmOf km (a .vertical + a .surface) (a .weight) → my ≡ transverseOf a → Moderate (a .weight) gm my
 moderate {a} {km} s e f =
     rw (e, f)
     (record {
       weight-most = omega arith;
-      gm-most = omega (arith, difference-above km (roundedUp (a .vertical + a .surface) (a .weight)));
+      gm-most = omega (arith, above-most (less km (roundedUp (a .vertical + a .surface) (a .weight))));
       my-most = omega (arith, difference-size (a .starboard) (a .port));
     })
 

@@ -10,7 +10,7 @@ use lib.Signed.{_≤ℤ_, _<ℤ_}
 use Rattle.arithmetic.proofs.Rounding.{RoundedDown, RoundedUp}
 use Rattle.arithmetic.proofs.Ring.{ring}
 use Rattle.loading.specs.Fraction.{Fraction, _over_, _plus_, _per_, _minus_, LessThanThreeBelow}
-use Rattle.loading.proofs.Difference.{difference-le, difference-lt, difference-times, difference-more}
+use Rattle.arithmetic.proofs.Differences.{difference-le, difference-lt, difference-times, difference-more}
 
 -- KM is rounded down; KG, (moment + surface) / W, is rounded up; and the surface is rounded up by less than W.
 module _ (KM : Fraction) (unit W km kg moment surface parts : ℕ) (some : 0 < unit) (down : RoundedDown (KM .top) (KM .bottom) km) (up : RoundedUp (moment + surface) W kg) (enough : parts ≤ unit * surface) (close : unit * surface < parts + unit * W) where

@@ -24,7 +24,7 @@ use Rattle.loading.specs.Table.{Table}
 use Rattle.loading.specs.Total.{total, totalℤ}
 use Rattle.loading.specs.declared.Aboard.{Aboard}
 use Rattle.loading.specs.declared.Reading.{Reading}
-use Rattle.loading.proofs.Difference.{difference-times}
+use Rattle.arithmetic.proofs.Differences.{difference-times}
 use Rattle.loading.proofs.Adding.{total-none}
 
 net-with : (a b : Aboard) → transverseOf (a with b) ≡ transverseOf a +ℤ transverseOf b

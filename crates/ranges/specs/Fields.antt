@@ -121,3 +121,10 @@ shiftDeflection = 1 to 2_000
 
 abbrev pub shift : List Range
 shift = shiftWeight ∷ shiftDistance ∷ shiftDeflection ∷ []
+
+-- ---- the supply-vessel profile: "a table of KN in mm, 0..20,000, .. then KM and KG, each 0..100,000"
+abbrev pub crossCurve : List Range
+crossCurve = 0 to 20_000 ∷ []
+
+abbrev pub heights : List Range
+heights = metacentre ∷ metacentre ∷ []

@@ -20,6 +20,11 @@ unfoldable pub answerWith : {A B : Type 0} → (A → B) → Outcome A → Outco
 answerWith part (answered a) = answered (part a)
 answerWith part (refused number place) = refused number place
 
+-- A lent value afterwards: what an answer has for it; after a refusal what it was.
+abbrev pub valueAfter : {A B : Type 0} → (A → B) → Outcome A → B → B
+valueAfter value (answered a) was = value a
+valueAfter value (refused number place) was = was
+
 -- A lent table afterwards: the numbers that an answer has for it, and beyond them what it held before; after a refusal all that it held before.
 unfoldable pub leftWith : {A B : Type 0} → (A → List B) → Outcome A → List B → List B
 leftWith numbers (answered a) was = numbers a ++ drop (length (numbers a)) was

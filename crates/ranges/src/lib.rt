@@ -5,7 +5,7 @@ ghost use lib.IntN.{pos};
 ghost use lib.ListN.{length, take, drop};
 ghost use Prim.Native.Nat.{_+_, _<_, _≤_};
 ghost use Rattle.ranges.specs.Private.Bounds.{boundsOf, rangesOf};
-ghost use Rattle.ranges.specs.Fields.{_to_, within, rangeOf, fields, halfBreadth, item, tank, rowRanges, hopperWidth, inclining, shift};
+ghost use Rattle.ranges.specs.Fields.{_to_, within, rangeOf, fields, halfBreadth, item, tank, rowRanges, hopperWidth, inclining, shift, crossCurve, heights};
 ghost use Rattle.ranges.specs.Limits.{limits};
 ghost use Rattle.ranges.specs.Outside.{fieldAfter, firstOutside, tooLong, badParticular};
 ghost use Rattle.ranges.specs.Sides.{sidesOf};
@@ -318,6 +318,24 @@ pub fn shift_outside(table: &[u64]) -> usize
     let least = [1, 1, 1];
     let greatest = [20_000, 16_000, 2_000];
     given_outside(table, &least, &greatest)
+}
+
+// The place of the first KN of a table out of range, or the table's length.
+pub fn cross_curve_outside(table: &[u64]) -> usize
+    ensures { λ r. ⌜ r ≡ firstOutside crossCurve (map pos (now (table .entry))) ⌝ }
+{
+    let least = [0];
+    let greatest = [20_000];
+    given_outside(table, &least, &greatest)
+}
+
+// The place of the first of KM and KG out of range, or how many there are.
+pub fn heights_outside(numbers: &[u64]) -> usize
+    ensures { λ r. ⌜ r ≡ firstOutside heights (map pos (now (numbers .entry))) ⌝ }
+{
+    let least = [0, 0];
+    let greatest = [HIGHEST_METACENTRE, HIGHEST_METACENTRE];
+    given_outside(numbers, &least, &greatest)
 }
 
 // The place of the first number of a table of rows out of range, or the table's length.

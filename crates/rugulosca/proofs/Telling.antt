@@ -14,7 +14,7 @@ use native.Mathlib.Omega.{arith}
 use lib.Ieee.{Float}
 use lib.IntN.{ℤ}
 use Rattle.arithmetic.proofs.Only.{only}
-use Rattle.ranges.specs.Outcome.{Outcome, answered, refused, Numbered}
+use Rattle.ranges.specs.Outcome.{Outcome, answered, refused, valueAfter, Numbered}
 use Rattle.ranges.specs.declared.Particulars.{Particulars}
 use Rattle.hydrostatics.specs.Promise.{MakesRows}
 use Rattle.hydrostatics.specs.declared.Rows.{Rows}
@@ -24,7 +24,7 @@ use Rattle.inclining.specs.declared.Test.{Test}
 use Rattle.loading.specs.declared.Condition.{Condition}
 use Rattle.writer.specs.Writer.{Writes}
 use Rattle.writer.specs.declared.Written.{Written}
-use Rattle.rugulosca.specs.Told.{numberOf, placeAfter, valueAfter, tangentAfter, Tells, TellsCondition}
+use Rattle.rugulosca.specs.Told.{numberOf, placeAfter, tangentAfter, Tells, TellsCondition}
 
 pub told : {A B : Type 0} (value : A → B) {o : Outcome A} {a : A} {was : B} {place : ℕ} → answered a ≡ o → Tells value o was (value a) place place 0
 told value {was} {place} e =

@@ -10,12 +10,15 @@ use Rattle.hoppers.specs.declared.FreeSurface.{FreeSurface}
 use Rattle.hydrostatics.specs.declared.Figures.{Figures}
 use Rattle.inclining.specs.declared.LightShip.{LightShip}
 use Rattle.inclining.specs.declared.Test.{Test}
+use Rattle.levers.specs.declared.Profile.{Profile}
+use Rattle.levers.specs.declared.Rule.{Rule}
+use Rattle.levers.specs.declared.Rule.the-variants.{Met, Missed}
 use Rattle.loading.specs.declared.Condition.{Condition}
 use Rattle.loading.specs.declared.Heel.{Heel}
 use Rattle.loading.specs.declared.Heel.the-variants.{Unstable, Upright, Heeled, Beyond}
 use Rattle.offsets.specs.declared.Summary.{Summary}
 use Rattle.report.specs.Lines.{mark}
-use Rattle.ranges.specs.Outcome.{Outcome, answered, refused}
+use Rattle.ranges.specs.Outcome.{Outcome, answered, refused, valueAfter}
 use Rattle.ranges.specs.Refusals.{firstRefusal, lastRefusal}
 
 abbrev pub numberOf : {A : Type 0} → Outcome A → ℕ
@@ -25,10 +28,6 @@ numberOf (refused number place) = number
 abbrev pub placeAfter : {A : Type 0} → Outcome A → ℕ → ℕ
 placeAfter (answered a) was = was
 placeAfter (refused number place) was = place
-
-abbrev pub valueAfter : {A B : Type 0} → (A → B) → Outcome A → B → B
-valueAfter value (answered a) was = value a
-valueAfter value (refused number place) was = was
 
 -- the number a call returns, the place it leaves, and the values
 pub record Tells {A B : Type 0} (value : A → B) (outcome : Outcome A) (was left : B) (place placeLeft number : ℕ) : Type 0 where
@@ -61,6 +60,19 @@ testOf four = record { weight = getD four 0 0; km = getD four 1 0; «free_surfac
 
 abbrev pub lightShipNumbers : LightShip → List ℕ
 lightShipNumbers s = s .«measured_gm» ∷ s .weight ∷ s .«vertical_moment» ∷ s .vcg ∷ []
+
+-- a profile's numbers without a sign: the peak's angle, then 1 for each rule that is met and 0 for each that is missed; its numbers with a sign:
+-- GM, GZ at 30 degrees, and the sums to t and from 30 to 40
+abbrev pub met : Rule → ℕ
+met Met = 1
+met Missed = 0
+
+abbrev pub profileWholes : Profile → List ℕ
+profileWholes p =
+    p .peak ∷ met (p .rules .peak) ∷ met (p .rules .«area_to_t») ∷ met (p .rules .«area_from_30_to_40») ∷ met (p .rules .«gz_at_30») ∷ met (p .rules .gm) ∷ []
+
+abbrev pub profileSigned : Profile → List ℤ
+profileSigned p = p .gm ∷ p .«gz_at_30» ∷ p .«sum_to_t» ∷ p .«sum_from_30_to_40» ∷ []
 
 -- how the vessel lies: 0 unstable, 1 upright, 2 heeled, 3 beyond
 abbrev pub lie : Heel → ℕ

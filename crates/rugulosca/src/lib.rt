@@ -4,6 +4,7 @@ mod conditions;
 mod files;
 mod hulls;
 mod inclinings;
+mod profiles;
 mod sheets;
 mod surfaces;
 mod tallies;

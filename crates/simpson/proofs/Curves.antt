@@ -5,16 +5,18 @@
 --     curve-mono                   ordinates never larger, a sum never larger
 --     curve-swap                   over a surface, either way first
 --     pos-curve                    the same over numbers of either sign
+--     curveℤ-less                  of differences it is the difference
 --     curve-few                    nothing over fewer than two intervals, for which there is no rule
 -- How large it is, and what it is for a cubic: `Moments`. Assumes nothing.
-use mathlib.Core.Path.{_≡_, sym, ap, _∙_}
+use mathlib.Core.Path.{_≡_, refl, sym, ap, ap₂, _∙_}
 use Prim.Native.Nat.{ℕ, zero, suc, _+_, _*_, _≤_, _<_}
 use native.Mathlib.Nat.{mul-left-comm, mul-le-mul-left}
 use native.Mathlib.Omega.{arith}
-use lib.IntN.{ℤ, pos, _+ℤ_, _*ℤ_}
+use lib.IntN.{ℤ, pos, negsuc, _+ℤ_, _-ℤ_, _*ℤ_}
 use Rattle.arithmetic.specs.Sum.{sumBy, sumTo}
 use Rattle.arithmetic.proofs.Algebra.{natural}
-use Rattle.arithmetic.proofs.Integer.{integer}
+use Rattle.arithmetic.proofs.Integer.{integer, solveℤ}
+use Rattle.arithmetic.proofs.Polynomial.{con, _:+_, _:*_, :-_}
 use Rattle.arithmetic.proofs.Sums.{sum-same, times-sum, weighted-plus, weighted-times, sum-swap, sum-mono}
 use Rattle.simpson.specs.Multipliers.{multiplier}
 use Rattle.arithmetic.proofs.Whole.{pos-sum}
@@ -62,6 +64,17 @@ curve-swap n m y =
 pub pos-curve : (n : ℕ) (y : ℕ → ℕ) → pos (curve n y) ≡ curveℤ n (λ i. pos (y i))
 unfolding curve curveℤ
 pos-curve n y = pos-sum (n + 1) (λ i. multiplier n i * y i)
+
+pub curveℤ-less : (n : ℕ) (y z : ℕ → ℕ) → curveℤ n (λ i. pos (y i) -ℤ pos (z i)) ≡ pos (curve n y) -ℤ pos (curve n z)
+curveℤ-less n y z =
+    curveℤ-same n (λ i. pos (y i) -ℤ pos (z i)) (λ i. pos (y i) +ℤ negsuc 0 *ℤ pos (z i)) (λ i l. less-is (pos (y i)) (pos (z i)))
+    ∙ curveℤ-plus n (λ i. pos (y i)) (λ i. negsuc 0 *ℤ pos (z i))
+    ∙ ap (λ v. curveℤ n (λ i. pos (y i)) +ℤ v) (curveℤ-times n (negsuc 0) (λ i. pos (z i)))
+    ∙ sym (less-is (curveℤ n (λ i. pos (y i))) (curveℤ n (λ i. pos (z i))))
+    ∙ sym (ap₂ _-ℤ_ (pos-curve n y) (pos-curve n z))
+  where
+    less-is : (a b : ℤ) → a -ℤ b ≡ a +ℤ negsuc 0 *ℤ b
+    less-is = solveℤ 2 (λ a b. a :+ :- b) (λ a b. a :+ con (negsuc 0) :* b) refl
 
 pub curve-few : (n : ℕ) (y : ℕ → ℕ) → n < 2 → curve n y ≡ 0
 unfolding curve sumBy multiplier

@@ -38,7 +38,7 @@ slice-write-gms : tie.Need-slice-write-gms Inv-loop μ-loop
 slice-write-gms c =
     let l = c .before .before .before in
     let so = l .before .before .before .pre in
-    omega (arith, l .loop .inv .1 .as-long, so .2)
+    omega (arith, l .loop .inv .1 .stored .as-long, so .2)
 
 add-i : tie.Need-add-i Inv-loop μ-loop
 add-i c = let s = c .before .before .before .before .before .before in omega (arith, s .pre .1 .few)
@@ -54,7 +54,7 @@ loop-again c =
     (omega arith, left-more _ _ _ (so .1) (so .2) (l .loop .inv .1) (c .before .before .loop-test .taken) (c .gm-by .ensures ∙ ap (gmBy (s .args .test)) (c .before .heeling-at .ensures)))
 
 same-length : tie.Need-same-length Inv-loop μ-loop
-same-length c = c .before .loop .inv .1 .as-long
+same-length c = c .before .loop .inv .1 .stored .as-long
 
 returns : tie.Need-returns Inv-loop μ-loop
 returns c =

@@ -1,7 +1,7 @@
 -- Small numbers have a difference that 64 bits hold. Assumes nothing.
 use mathlib.Core.Path.{_∙_}
 use Rattle.arithmetic.proofs.Crossing.{nearest-back}
-use Rattle.loading.proofs.Difference.{difference-near}
+use Rattle.arithmetic.proofs.Differences.{difference-near}
 use borrow.Author.Needs.{needs}
 use Rattle.loading.proofs.stability.less.Statement.{statement}
 use Rattle.loading.proofs.stability.less.Tie as tie

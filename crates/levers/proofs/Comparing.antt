@@ -1,0 +1,64 @@
+-- Rules by the parts of a number of either sign.
+--     value-back                what a callee made of small parts is what they come to
+--     missed, met               a rule by parts, either way
+--     met-told                  what it tells that a rule is met
+--     area-missed, area-met     the same of an area by the parts of a sum, and area-told
+-- Assumes nothing.
+use Prim.Native.Nat.{ℕ, _+_, _*_, _≤_, _<_}
+use mathlib.Core.Bool.{Bool, true, false}
+use mathlib.Core.Path.{_≡_, sym, ap, _∙_}
+use native.Mathlib.Omega.{arith}
+use borrow.Author.Tests.{leb-true, leb-false, le-leb, lt-leb}
+use lib.Dec.{leb}
+use lib.IntN.{ℤ, pos, _-ℤ_, _*ℤ_}
+use lib.Signed.{leZ}
+use Rattle.arithmetic.specs.Choice.{if_then_else_}
+use Rattle.arithmetic.specs.Signed.{nearest}
+use Rattle.arithmetic.proofs.Choice.{chosen}
+use Rattle.arithmetic.proofs.Crossing.{back, nearest-back}
+use Rattle.arithmetic.proofs.Differences.{whole-leZ, difference-times, difference-near}
+use Rattle.arithmetic.proofs.Tests.{by-test}
+use Rattle.levers.specs.Criterion.{atLeast, areaAtLeast}
+use Rattle.levers.specs.Private.Parts.{value, Small}
+use Rattle.levers.specs.declared.Parts.{Parts}
+use Rattle.levers.specs.declared.Rule.{Rule}
+use Rattle.levers.specs.declared.Rule.the-variants.{Met, Missed}
+
+pub value-back : {p : Parts} {r : ℤ} → Small p → r ≡ nearest (value p) → back r ≡ value p
+value-back {p} so e =
+    nearest-back (value p) e ∙ difference-near (p .whole) (p .off) (omega (arith, so .whole-most)) (omega (arith, so .off-most))
+
+not-both : {X : Type 0} → _≡_ {A = Rule} Missed Met → X
+not-both e = let z : _≡_ {A = ℕ} 0 1 = cc in absurd (omega arith)
+
+module _ (least : ℕ) {v : ℤ} (a b : ℕ) (e : v ≡ pos a -ℤ pos b) where
+  test-is : leZ (pos least) v ≡ leb (least + b) (a + 0)
+  test-is = ap (leZ (pos least)) e ∙ whole-leZ least a b
+
+  pub missed : a < b + least → Missed ≡ atLeast least v
+  unfolding atLeast
+  missed h = sym (simp (test-is, lt-leb (least + b) (a + 0) (omega arith), chosen))
+
+  pub met : b + least ≤ a → Met ≡ atLeast least v
+  unfolding atLeast
+  met h = sym (simp (test-is, le-leb (least + b) (a + 0) (omega arith), chosen))
+
+  pub met-told : atLeast least v ≡ Met → b + least ≤ a
+  unfolding atLeast
+  met-told is =
+      by-test (leb (least + b) (a + 0))
+      (λ t. omega (arith, leb-true (least + b) (a + 0) t))
+      (λ t. not-both (missed (omega (arith, leb-false (least + b) (a + 0) t)) ∙ is))
+
+module _ (least : ℕ) {v : ℤ} (a b : ℕ) (e : v ≡ pos a -ℤ pos b) where
+  sum-is : pos 5_000 *ℤ v ≡ pos (5_000 * a) -ℤ pos (5_000 * b)
+  sum-is = ap (λ v. pos 5_000 *ℤ v) e ∙ difference-times a b 5_000
+
+  pub area-missed : 5_000 * a < 5_000 * b + 24 * 57_296 * least → Missed ≡ areaAtLeast least v
+  area-missed h = missed (24 * 57_296 * least) (5_000 * a) (5_000 * b) sum-is h
+
+  pub area-met : 5_000 * b + 24 * 57_296 * least ≤ 5_000 * a → Met ≡ areaAtLeast least v
+  area-met h = met (24 * 57_296 * least) (5_000 * a) (5_000 * b) sum-is h
+
+  pub area-told : areaAtLeast least v ≡ Met → 5_000 * b + 24 * 57_296 * least ≤ 5_000 * a
+  area-told is = met-told (24 * 57_296 * least) (5_000 * a) (5_000 * b) sum-is is

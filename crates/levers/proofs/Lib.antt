@@ -1,0 +1,7 @@
+-- The laws of this crate, for every crate above it.
+pub mod Comparing
+pub mod Peak
+pub mod Tabled
+pub mod Summed
+pub mod Trying
+pub mod Making
