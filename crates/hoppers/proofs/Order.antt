@@ -5,39 +5,20 @@
 -- Assumes nothing.
 use mathlib.Core.Path.{_≡_, sym, _∙_}
 use mathlib.Core.Bool.{true}
-use mathlib.Core.List.{List, map}
+use mathlib.Core.List.{List}
 use Prim.Native.Nat.{ℕ, _+_, _≤_, _<_}
-use native.Mathlib.Nat.{mod-one}
 use native.Mathlib.Omega.{arith}
 use borrow.Author.Tests.{eq-eqb}
-use lib.IntN.{pos}
-use lib.ListN.{length, getD, length-map, List·getD-map}
+use lib.ListN.{length, getD}
 use Rattle.arithmetic.proofs.Tests.{by-test}
-use Rattle.ranges.specs.Fields.{hopperWidth}
 use Rattle.ranges.specs.Outcome.{refused}
-use Rattle.ranges.specs.Outside.{firstOutside}
-use Rattle.ranges.proofs.Facts.{wholes-inside, whole-within, not-within}
-use Rattle.ranges.proofs.Outside.{outside-first}
+use Rattle.ranges.proofs.Facts.{whole-within, not-within, first-above, none-above}
 use Rattle.hoppers.specs.Hopper.{countsFit, found, surfaceOf, MakesSurface}
 use Rattle.hoppers.specs.declared.Answer.{Answer}
 use Rattle.hoppers.specs.declared.Answer.the-variants.{Found, Refused}
 use Rattle.hoppers.specs.declared.FreeSurface.{FreeSurface}
 use Rattle.hoppers.proofs.Trying.{counts-told, port-outside, starboard-outside, interval-outside, density-outside, none-outside, refused-size, refused-range, surface-found}
 use Rattle.hoppers.proofs.Unique.{paper-injective}
-
--- ---- widths: the first above 1,500 mm, and none
-module _ (widths : List ℕ) where
-  wide-at : (i : ℕ) → getD (map pos widths) i (pos 0) ≡ pos (getD widths i 0)
-  wide-at i = List·getD-map pos widths i 0
-
-  first-wide : (i : ℕ) → i < length widths → 1_500 < getD widths i 0 → ((j : ℕ) → j < i → getD widths j 0 ≤ 1_500) → i ≡ firstOutside hopperWidth (map pos widths)
-  first-wide i there above before =
-      sym (outside-first hopperWidth (map pos widths) i (omega (arith, length-map widths pos))
-      (rw (mod-one, wide-at i) (not-within 0 1_500 (getD widths i 0) (λ in-range. omega (arith, in-range .1))))
-      (λ j l. rw (mod-one, wide-at j) (whole-within 0 1_500 (getD widths j 0) (omega arith, before j l))))
-
-  none-wide : ((i : ℕ) → i < length widths → getD widths i 0 ≤ 1_500) → length widths ≡ firstOutside hopperWidth (map pos widths)
-  none-wide all = sym (wholes-inside 0 1_500 widths (λ i l. (omega arith, all i l)))
 
 -- ---- the answer
 module _ {port starboard : List ℕ} {h density : ℕ} {answer : Answer} (made : MakesSurface port starboard h density answer) where
@@ -64,29 +45,29 @@ module _ {port starboard : List ℕ} {h density : ℕ} {answer : Answer} (made :
 
     pub port-refused : (i : ℕ) → i < length port → 1_500 < getD port i 0 → ((j : ℕ) → j < i → getD port j 0 ≤ 1_500) → answer ≡ Refused (record { number = 4; place = i })
     port-refused i there above before =
-        let e = port-outside port starboard h density (first-wide port i there above before) there in
+        let e = port-outside port starboard h density (first-above 1_500 port i there above before) there in
         refused-with 4 i (refused-range port starboard h density fit e (omega arith))
 
     module _ (to-port : (i : ℕ) → i < length port → getD port i 0 ≤ 1_500) where
       pub starboard-refused : (i : ℕ) → i < length starboard → 1_500 < getD starboard i 0 → ((j : ℕ) → j < i → getD starboard j 0 ≤ 1_500) → answer ≡ Refused (record { number = 4; place = length port + i })
       starboard-refused i there above before =
-          let e = starboard-outside port starboard h density (none-wide port to-port) (omega arith) (first-wide starboard i there above before) there in
+          let e = starboard-outside port starboard h density (none-above 1_500 port to-port) (omega arith) (first-above 1_500 starboard i there above before) there in
           refused-with 4 (length port + i) (refused-range port starboard h density fit e (omega arith))
 
       module _ (to-starboard : (i : ℕ) → i < length starboard → getD starboard i 0 ≤ 1_500) where
         pub interval-refused : ((50 ≤ h) × (h ≤ 1_000) → ⊥) → answer ≡ Refused (record { number = 4; place = length port + length starboard })
         interval-refused out =
-            let e = interval-outside port starboard h density (none-wide port to-port) (omega arith) (none-wide starboard to-starboard) (omega arith) (not-within 50 1_000 h out) in
+            let e = interval-outside port starboard h density (none-above 1_500 port to-port) (omega arith) (none-above 1_500 starboard to-starboard) (omega arith) (not-within 50 1_000 h out) in
             refused-with 4 (length port + length starboard) (refused-range port starboard h density fit e (omega arith))
 
         module _ (interval : (50 ≤ h) × (h ≤ 1_000)) where
           pub density-refused : ((1 ≤ density) × (density ≤ 1_500) → ⊥) → answer ≡ Refused (record { number = 4; place = length port + length starboard + 1 })
           density-refused out =
-              let e = density-outside port starboard h density (none-wide port to-port) (omega arith) (none-wide starboard to-starboard) (omega arith) (whole-within 50 1_000 h interval) (not-within 1 1_500 density out) in
+              let e = density-outside port starboard h density (none-above 1_500 port to-port) (omega arith) (none-above 1_500 starboard to-starboard) (omega arith) (whole-within 50 1_000 h interval) (not-within 1 1_500 density out) in
               refused-with 4 (length port + length starboard + 1) (refused-range port starboard h density fit e (omega arith))
 
           pub else-found : (1 ≤ density) × (density ≤ 1_500) → (s : FreeSurface) × (answer ≡ Found s)
           else-found liquid =
-              let e = none-outside port starboard h density (none-wide port to-port) (omega arith) (none-wide starboard to-starboard) (omega arith) (whole-within 50 1_000 h interval) (whole-within 1 1_500 density liquid) in
+              let e = none-outside port starboard h density (none-above 1_500 port to-port) (omega arith) (none-above 1_500 starboard to-starboard) (omega arith) (whole-within 50 1_000 h interval) (whole-within 1 1_500 density liquid) in
               let s = found port starboard h density in
               (s, paper-injective answer (Found s) (made .answer-is ∙ sym (surface-found port starboard h density fit e (omega arith))))

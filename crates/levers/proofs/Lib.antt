@@ -5,3 +5,10 @@ pub mod Tabled
 pub mod Summed
 pub mod Trying
 pub mod Making
+pub mod Unique
+pub mod Numbered
+pub mod Answered
+pub mod Order
+pub mod Lowered
+pub mod Sines
+pub mod Figures

@@ -3,7 +3,7 @@
 --     peak-none, peak-more          of the first angle alone, and with one angle more
 --     held-below, held-beyond, held-between     t
 --     peak-within                   it is one of the angles
---     greatest, first               no GZ is greater, and every one before it is less
+--     First, peak-first             no GZ is greater, and every one before it is less
 -- Assumes nothing.
 use Prim.Native.Nat.{ℕ, zero, suc, _+_, _-_, _≤_, _<_}
 use mathlib.Core.Bool.{Bool, true, false, not}
@@ -11,13 +11,14 @@ use mathlib.Core.Path.{_≡_, refl, sym, ap, subst, _∙_}
 use mathlib.Core.List.{List}
 use native.Mathlib.Omega.{arith}
 use borrow.Author.Tests.{lt-ltb, le-ltb}
-use lib.Dec.{ltb}
-use lib.IntN.{ℤ}
+use lib.Dec.{T, ltb, le→leb, ltb→lt}
+use lib.IntN.{ℤ, pos, negsuc}
 use lib.ListN.{getD}
-use lib.Signed.{ltZ}
+use lib.Signed.{leZ, ltZ, _≤ℤ_, _<ℤ_, leZ-yes, ltZ-yes, ltZ-no, ≤ℤ-refl, <ℤ-≤ℤ-trans, clashℤ}
 use Rattle.arithmetic.specs.Choice.{if_then_else_}
 use Rattle.arithmetic.proofs.Choice.{if-either, chosen}
 use Rattle.arithmetic.proofs.Differences.{difference-ltZ}
+use Rattle.arithmetic.proofs.Tests.{by-test, same-or-other}
 use Rattle.levers.specs.Levers.{lever, peakUpTo, held}
 use Rattle.levers.specs.Private.Parts.{greaterOf}
 
@@ -38,6 +39,22 @@ module _ (kn off : List ℕ) (first i : ℕ) where
   pub first-greater : more ≤ less → first ≡ greaterOf (lever kn off) first i
   first-greater h = sym (simp (test-is, le-ltb less more h, chosen))
 
+-- ---- order
+lt-leZ : (a b : ℤ) → T (ltZ a b) → T (leZ a b)
+lt-leZ (pos m) (pos n) t = le→leb m n (omega (arith, ltb→lt m n t))
+lt-leZ (pos m) (negsuc n) t = absurd t
+lt-leZ (negsuc m) (pos n) t = tt
+lt-leZ (negsuc m) (negsuc n) t = le→leb n m (omega (arith, ltb→lt n m t))
+
+below : {a b : ℤ} → a <ℤ b → a ≤ℤ b
+below {a} {b} h = leZ-yes (lt-leZ a b (h .lt))
+
+le-lt : {a b c : ℤ} → a ≤ℤ b → b <ℤ c → a <ℤ c
+le-lt {a} {b} {c} h k =
+    by-test (ltZ a c) (λ t. ltZ-yes (subst T (sym t) tt))
+    (λ t. let not-less : c ≤ℤ a = ltZ-no (subst (λ t. T (not t)) (sym t) tt) in clashℤ (<ℤ-≤ℤ-trans k not-less) h)
+
+-- ---- the peak
 module _ (gz : ℕ → ℤ) where
   pub peak-none : 0 ≡ peakUpTo gz 0
   unfolding peakUpTo
@@ -58,6 +75,33 @@ module _ (gz : ℕ → ℤ) where
   unfolding peakUpTo
   peak-within zero = omega arith
   peak-within (suc i) = if-either (λ p. p ≤ suc i) (ltZ (gz (peakUpTo gz i)) (gz (suc i))) (λ t. omega arith) (λ t. omega (arith, peak-within i))
+
+  -- no lever up to a number is greater, and every one before it is less
+  pub record First (n peak : ℕ) : Type 0 where
+    pub greatest : (j : ℕ) → j ≤ n → gz j ≤ℤ gz peak
+    pub before : (j : ℕ) → j < peak → gz j <ℤ gz peak
+
+  -- one angle more: the peak moves to it, or stays
+  module _ (n p : ℕ) (so : First n p) where
+    moved : gz p <ℤ gz (suc n) → First (suc n) (suc n)
+    moved less = record {
+      greatest = λ j h. same-or-other j (suc n) (λ e. subst (λ j. gz j ≤ℤ gz (suc n)) (sym e) (≤ℤ-refl (gz (suc n)))) (λ other. below (le-lt (so .greatest j (omega arith)) less));
+      before = λ j h. le-lt (so .greatest j (omega arith)) less;
+    }
+
+    stays : gz (suc n) ≤ℤ gz p → First (suc n) p
+    stays not-more = record {
+      greatest = λ j h. same-or-other j (suc n) (λ e. subst (λ j. gz j ≤ℤ gz p) (sym e) not-more) (λ other. so .greatest j (omega arith));
+      before = so .before;
+    }
+
+  pub peak-first : (n : ℕ) → First n (peakUpTo gz n)
+  unfolding peakUpTo
+  peak-first zero = record {
+    greatest = λ j h. let e : 0 ≡ j = omega arith in subst (λ j. gz j ≤ℤ gz 0) e (≤ℤ-refl (gz 0));
+    before = λ j h. absurd (omega arith);
+  }
+  peak-first (suc n) = if-either (First (suc n)) (ltZ (gz (peakUpTo gz n)) (gz (suc n))) (λ t. moved n (peakUpTo gz n) (peak-first n) (ltZ-yes (subst T (sym t) tt))) (λ t. stays n (peakUpTo gz n) (peak-first n) (ltZ-no (subst (λ t. T (not t)) (sym t) tt)))
 
 -- ---- t
 module _ {angle : ℕ} where

@@ -21,7 +21,7 @@ use Rattle.arithmetic.specs.Signed.{nearest}
 use Rattle.arithmetic.proofs.Crossing.{back}
 use Rattle.arithmetic.proofs.Rounding.{up-of, up-least, up-zero}
 use Rattle.arithmetic.proofs.Tests.{both}
-use Rattle.ranges.specs.Fields.{_to_, within, most, metacentre, crossCurve}
+use Rattle.ranges.specs.Fields.{_to_, within, most, metacentre, crossLever}
 use Rattle.ranges.specs.Outside.{firstOutside, outsideFrom}
 use Rattle.ranges.proofs.Facts.{wholes-in-range}
 use Rattle.levers.specs.Levers.{products, lever, angles, atEach}
@@ -61,8 +61,8 @@ module _ (kg : ℕ) where
   pub products-in-range : kg ≤ most metacentre → TableInRange (products kg)
   products-in-range h = record { as-many = products-length; none-higher = λ i. omega (arith, product-le i) }
 
-pub kn-in-range : {kn : List ℕ} → length kn ≡ angleCount → length kn ≤ firstOutside crossCurve (map pos kn) → TableInRange kn
-kn-in-range {kn} e h = record { as-many = e; none-higher = λ i. omega (arith, wholes-in-range (0 to 20_000) kn h i) }
+pub kn-in-range : {kn : List ℕ} → length kn ≡ angleCount → ((i : ℕ) → getD kn i 0 ≤ most crossLever) → TableInRange kn
+kn-in-range {kn} e h = record { as-many = e; none-higher = λ i. omega (arith, h i) }
 
 -- ---- the levers
 module _ {kn off : List ℕ} (so : Tables kn off) (i : ℕ) where

@@ -1,6 +1,6 @@
 -- The tests, in the paper's order.
 --     kn-outside, height-outside           where the first number out of range stands
---     Inside, inside                       what it tells that none is
+--     Inside, inside, tables-in-range      what it tells that none is
 --     refused-size, refused-range, found   what the call comes to, test by test
 -- Assumes nothing.
 use mathlib.Core.Path.{_≡_, refl, sym, ap, _∙_}
@@ -10,21 +10,21 @@ use native.Mathlib.Omega.{arith}
 use borrow.Author.Tests.{lt-ltb, le-ltb, eq-eqb, ne-eqb}
 use lib.Dec.{eqb, ltb}
 use lib.IntN.{ℤ, pos}
-use lib.ListN.{length, length-map}
+use lib.ListN.{length, getD, length-map}
 use Rattle.arithmetic.specs.Choice.{if_then_else_}
 use Rattle.arithmetic.proofs.Choice.{chosen}
-use Rattle.ranges.specs.Fields.{most, metacentre, crossCurve, heights}
+use Rattle.ranges.specs.Fields.{most, metacentre, crossLever, crossCurve, heights}
 use Rattle.ranges.specs.Outcome.{answered, refused}
 use Rattle.ranges.specs.Outside.{firstOutside}
 use Rattle.ranges.specs.Refusals.{outOfRange, wrongSize}
-use Rattle.ranges.proofs.Facts.{all-within, within-whole}
+use Rattle.ranges.proofs.Facts.{all-within, within-whole, wholes-in-range}
 use Rattle.ranges.proofs.Outside.{outside-le, then-within, then-after, then-inside}
 use Rattle.levers.specs.Criterion.{GM, profile}
-use Rattle.levers.specs.Levers.{GZ}
-use Rattle.levers.specs.Private.Parts.{TableInRange}
+use Rattle.levers.specs.Levers.{products, GZ}
+use Rattle.levers.specs.Private.Parts.{Tables}
 use Rattle.levers.specs.Promise.{count, outside, profileOf}
 use Rattle.levers.specs.Sines.{angleCount}
-use Rattle.levers.proofs.Tabled.{kn-in-range}
+use Rattle.levers.proofs.Tabled.{kn-in-range, products-in-range}
 
 pub heights-le : (km kg : ℕ) {s : ℕ} → s ≡ firstOutside heights (map pos (km ∷ kg ∷ [])) → s ≤ length heights
 heights-le km kg e = omega (arith, e, outside-le heights (map pos (km ∷ kg ∷ [])))
@@ -45,7 +45,7 @@ module _ (kn : List ℕ) (km kg : ℕ) where
 
   -- ---- none is outside
   pub record Inside : Type 0 where
-    pub of-kn : TableInRange kn
+    pub kn-most : (i : ℕ) → getD kn i 0 ≤ most crossLever
     pub km-most : km ≤ most metacentre
     pub kg-most : kg ≤ most metacentre
 
@@ -55,10 +55,13 @@ module _ (kn : List ℕ) (km kg : ℕ) where
       let told = then-inside crossCurve (map pos kn) in-heights (length heights) (omega (arith, size, length-map kn pos, e)) in
       let at = all-within heights (map pos (km ∷ kg ∷ [])) (told .1) in
       record {
-        of-kn = kn-in-range size (omega (arith, told .0, length-map kn pos));
+        kn-most = wholes-in-range crossLever kn (omega (arith, told .0, length-map kn pos));
         km-most = within-whole metacentre km (at 0 (omega arith)) .1;
         kg-most = within-whole metacentre kg (at 1 (omega arith)) .1;
       }
+
+  pub tables-in-range : length kn ≡ angleCount → Inside → {off : List ℕ} → off ≡ products kg → Tables kn off
+  tables-in-range size so e = rw e (record { of-kn = kn-in-range size (so .kn-most); of-off = products-in-range kg (so .kg-most) })
 
   -- ---- what the call comes to
   pub refused-size : (length kn ≡ angleCount → ⊥) → refused wrongSize 0 ≡ profileOf kn km kg

@@ -8,6 +8,7 @@
 --     within-positive                       of a range from 0 on: each number is its own size
 --     wholes-in-range, wholes-inside        of a table of whole numbers of one range: none is above it, at any place; and the other way
 --     whole-outside                         one that is not in it is outside
+--     first-above, none-above               of numbers from 0 to b: the first above b, and where none is
 --     half-breadths-in-range, particulars-in-range      the same as facts
 --     records-are                           what a count of whole records is
 -- Assumes nothing.
@@ -34,7 +35,7 @@ use Rattle.ranges.specs.Sides.{sidesOf}
 use Rattle.ranges.specs.Sizes.{wholeRecords}
 use Rattle.ranges.specs.declared.Particulars.{Particulars}
 use Rattle.ranges.proofs.Hulls.{none-bad, not-too-long}
-use Rattle.ranges.proofs.Outside.{outside-le}
+use Rattle.ranges.proofs.Outside.{outside-le, outside-first}
 
 -- ---- sides
 module _ (y : ℤ) (size : ℕ) (e : size ≡ natAbs y) where
@@ -145,6 +146,16 @@ whole-outside r table k h e =
     let at = all-within (r ∷ []) (map pos table) (omega (arith, length-map table pos)) k (omega (arith, length-map table pos)) in
     never (sym e ∙ rw (mod-one, List·getD-map pos table k 0) at at))
     (less-or-not (firstOutside (r ∷ []) (map pos table)) (length table))
+
+module _ (b : ℕ) (table : List ℕ) where
+  pub first-above : (i : ℕ) → i < length table → b < getD table i 0 → ((j : ℕ) → j < i → getD table j 0 ≤ b) → i ≡ firstOutside ((0 to b) ∷ []) (map pos table)
+  first-above i there above before =
+      sym (outside-first ((0 to b) ∷ []) (map pos table) i (omega (arith, length-map table pos))
+      (rw (mod-one, List·getD-map pos table i 0) (not-within 0 b (getD table i 0) (λ in-range. omega (arith, in-range .1))))
+      (λ j l. rw (mod-one, List·getD-map pos table j 0) (whole-within 0 b (getD table j 0) (omega arith, before j l))))
+
+  pub none-above : ((i : ℕ) → i < length table → getD table i 0 ≤ b) → length table ≡ firstOutside ((0 to b) ∷ []) (map pos table)
+  none-above all = sym (wholes-inside 0 b table (λ i l. (omega arith, all i l)))
 
 pub half-breadths-in-range : (table : List ℕ) → length table ≤ firstOutside halfBreadth (map pos table) → HalfBreadthsInRange table
 half-breadths-in-range = wholes-in-range (rangeOf 5)

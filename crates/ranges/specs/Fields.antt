@@ -123,8 +123,11 @@ abbrev pub shift : List Range
 shift = shiftWeight ∷ shiftDistance ∷ shiftDeflection ∷ []
 
 -- ---- the supply-vessel profile: "a table of KN in mm, 0..20,000, .. then KM and KG, each 0..100,000"
+abbrev pub crossLever : Range
+crossLever = 0 to 20_000
+
 abbrev pub crossCurve : List Range
-crossCurve = 0 to 20_000 ∷ []
+crossCurve = crossLever ∷ []
 
 abbrev pub heights : List Range
 heights = metacentre ∷ metacentre ∷ []

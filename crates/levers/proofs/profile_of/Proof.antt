@@ -1,11 +1,9 @@
 -- The two tests in the paper's order, and where both are passed the profile. Assumes nothing.
-use mathlib.Core.Path.{sym, subst}
 use native.Mathlib.Omega.{arith}
 use borrow.Author.Needs.{needs}
-use Rattle.levers.specs.Private.Parts.{TableInRange, Tables}
+use Rattle.levers.specs.Private.Parts.{Tables}
 use Rattle.levers.proofs.Making.{declined, answered-so}
-use Rattle.levers.proofs.Tabled.{products-in-range}
-use Rattle.levers.proofs.Trying.{Inside, inside, refused-size, refused-range, found}
+use Rattle.levers.proofs.Trying.{Inside, inside, tables-in-range, refused-size, refused-range, found}
 use Rattle.levers.proofs.profile_of.Statement.{statement}
 use Rattle.levers.proofs.profile_of.Tie as tie
 
@@ -37,6 +35,10 @@ in-range c =
     let o = c .before in
     inside _ _ _ (omega (arith, o .before .if1 .left)) (o .outside-of .ensures) (omega (arith, c .if2 .left))
 
+-- both tables are in range
+tables : (c : tie.After-products-of) → let s = c .before .before .before .before .before in Tables (s .args .kn .now) (c .products-of .result)
+tables c = tables-in-range _ _ _ (omega (arith, c .before .before .before .if1 .left)) (in-range (c .before)) (c .products-of .ensures)
+
 products-of-requires : tie.Need-products-of-requires
 products-of-requires c κs = in-range c .kg-most
 
@@ -44,9 +46,7 @@ slice-aggregate-levers-of : tie.Need-slice-aggregate-levers-of
 slice-aggregate-levers-of c = search needs
 
 levers-of-requires : tie.Need-levers-of-requires
-levers-of-requires c κs =
-    let so = in-range (c .before .before) in
-    record { of-kn = so .of-kn; of-off = subst TableInRange (sym (c .before .products-of .ensures)) (products-in-range _ (so .kg-most)) }
+levers-of-requires c κs = tables (c .before)
 
 slice-aggregate-profile-by : tie.Need-slice-aggregate-profile-by
 slice-aggregate-profile-by c = search needs
@@ -55,7 +55,7 @@ profile-by-requires : tie.Need-profile-by-requires
 profile-by-requires c κs =
     let p = c .before .before .before in
     let so = in-range (p .before) in
-    (record { of-kn = so .of-kn; of-off = subst TableInRange (sym (p .products-of .ensures)) (products-in-range _ (so .kg-most)) }, so .km-most, so .kg-most)
+    (tables p, so .km-most, so .kg-most)
 
 returns-3 : tie.Need-returns-3
 returns-3 c =
