@@ -1,6 +1,6 @@
 -- The number that a call returns tells an answer from a refusal.
 --     apart     so it is of every outcome whose refusals have these numbers
---     report-apart, read-apart, write-apart, rows-apart, display-apart, surface-apart, light-ship-apart, condition-apart     and so of each call, by what it promises
+--     report-apart, read-apart, write-apart, rows-apart, display-apart, surface-apart, light-ship-apart, profile-apart, condition-apart     and so of each call, by what it promises
 --     load-apart, discharge-apart, shift-apart, aboard-apart                                the running tally's too
 -- Assumes nothing.
 use Prim.Native.Nat.{ℕ}
@@ -27,6 +27,8 @@ use Rattle.hydrostatics.proofs.Numbered.{rows-numbered, display-numbered}
 use Rattle.inclining.specs.Inclining.{shipOf, inclinedOf}
 use Rattle.inclining.specs.declared.Test.{Test}
 use Rattle.inclining.proofs.Numbered.{inclined-numbered}
+use Rattle.levers.specs.Promise.{profileOf}
+use Rattle.levers.proofs.Numbered.{profile-numbered}
 use Rattle.loading.specs.Condition.{conditionBy}
 use Rattle.loading.specs.declared.Reading.{Reading}
 use Rattle.loading.proofs.Numbered.{condition-numbered}
@@ -39,7 +41,7 @@ use Rattle.tally.proofs.Numbered as Tally
 use Rattle.report.specs.Promise.{reportBy}
 use Rattle.report.proofs.Numbered.{report-numbered}
 use Rattle.rugulosca.specs.Panel.{Kept, keptOf}
-use Rattle.rugulosca.specs.Told.{numberOf, Tells, Apart, summaryNumbers, figureNumbers, surfaceNumbers, lightShipNumbers, wholesOf}
+use Rattle.rugulosca.specs.Told.{numberOf, Tells, Apart, summaryNumbers, figureNumbers, surfaceNumbers, lightShipNumbers, profileWholes, wholesOf}
 use Rattle.rugulosca.proofs.Telling.{told-apart}
 
 pub apart : {A B : Type 0} {value : A → B} {o : Outcome A} {was left : B} {place placeLeft number : ℕ} → Numbered o → Tells value o was left place placeLeft number → Apart o number
@@ -78,6 +80,9 @@ module _ {place placeLeft number : ℕ} where
   pub light-ship-apart : (test : Test) (shifts : List ℕ) (off on : List ℤ) (room : ℕ) {was left : List ℕ}
       → Tells lightShipNumbers (shipOf (inclinedOf test shifts off on room)) was left place placeLeft number → Apart (shipOf (inclinedOf test shifts off on room)) number
   light-ship-apart test shifts off on room t = apart (with-numbered (λ i. i .light) _ (inclined-numbered test shifts off on room)) t
+
+  pub profile-apart : (kn : List ℕ) (km kg : ℕ) {was left : List ℕ} → Tells profileWholes (profileOf kn km kg) was left place placeLeft number → Apart (profileOf kn km kg) number
+  profile-apart kn km kg t = apart (profile-numbered kn km kg) t
 
   pub condition-apart : (reading : Reading) (items tanks : List ℤ) (rows : List ℕ) {was left : List ℕ}
       → Tells wholesOf (conditionBy reading items tanks rows) was left place placeLeft number → Apart (conditionBy reading items tanks rows) number

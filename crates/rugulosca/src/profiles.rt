@@ -28,11 +28,12 @@ fn met(rule: Rule) -> u64
 fn wholes_of(profile: Profile) -> [u64; WHOLE_COUNT]
     ensures { λ r. ⌜ r ≡ profileWholes profile ⌝ }
 {
-    let peak = profile.rules.peak;
-    let area_to_t = profile.rules.area_to_t;
-    let area_from_30_to_40 = profile.rules.area_from_30_to_40;
-    let gz_at_30 = profile.rules.gz_at_30;
-    let gm = profile.rules.gm;
+    let rules = profile.rules;
+    let peak = rules.peak;
+    let area_to_t = rules.area_to_t;
+    let area_from_30_to_40 = rules.area_from_30_to_40;
+    let gz_at_30 = rules.gz_at_30;
+    let gm = rules.gm;
     [
         profile.peak,
         met(peak),
