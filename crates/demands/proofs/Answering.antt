@@ -1,8 +1,8 @@
 -- Demand 1, call by call: the promise's own outcome makes one answer that keeps it; that no other does is the promise's uniqueness, and that a refusal's number is the
 -- paper's its numbering.
---     sheet-answers, reader-answers, writer-answers, rows-answer, inclining-answers, display-answers, hopper-answers, condition-answers, totals-answer, step-answers, aboard-answers
+--     sheet-answers, reader-answers, writer-answers, rows-answer, inclining-answers, profile-answers, display-answers, hopper-answers, condition-answers, totals-answer, step-answers, aboard-answers
 -- Assumes nothing.
-use mathlib.Core.Path.{_≡_, refl, sym, subst, _∙_}
+use mathlib.Core.Path.{_≡_, refl, sym, ap, subst, _∙_}
 use mathlib.Core.List.{List, map}
 use Prim.Native.Nat.{ℕ}
 use borrow.Author.Tests.{ltb-true}
@@ -52,6 +52,13 @@ use Rattle.inclining.specs.declared.Answer.the-variants as Inclined
 use Rattle.inclining.specs.declared.Test.{Test}
 use Rattle.inclining.proofs.Numbered.{inclined-numbered}
 use Rattle.inclining.proofs.Unique.{light-ship-unique}
+use Rattle.levers.specs.Promise.{MakesProfile, profileOf}
+use Rattle.levers.specs.Promise as Levers
+use Rattle.levers.specs.declared.Answer.{Answer as Profiled}
+use Rattle.levers.specs.declared.Answer.the-variants as Profiled
+use Rattle.levers.specs.declared.Profile.{Profile}
+use Rattle.levers.proofs.Numbered.{profile-numbered}
+use Rattle.levers.proofs.Unique.{profile-unique}
 use Rattle.loading.specs.Condition.{conditionBy}
 use Rattle.loading.specs.Items.{itemTotals}
 use Rattle.loading.specs.Promise as Loading
@@ -181,6 +188,24 @@ module _ (test : Test) (shifts : List ℕ) (off on : List ℤ) (gms : List ℕ) 
         only = λ other k. two-same other back (light-ship-unique k kept);
         numbered = numbered-as t (with-numbered (λ i. i .light) inclined (inclined-numbered test shifts off on (length gms)));
         untouched = λ e. left-refused _ inclined gms (with-refused (λ i. i .light) inclined (sym (t .is) ∙ e));
+      }
+
+-- ---- the profile
+module _ (kn : List ℕ) (km kg : ℕ) (gz : List ℤ) where
+  abbrev profiled : Outcome Profile
+  profiled = profileOf kn km kg
+
+  pub profile-answers : AnswersOrRefuses (λ (back : Profiled × List ℤ). MakesProfile kn km kg gz (back .1) (back .0)) (λ back. Levers.paper (back .0)) (λ back. back .1 ≡ gz)
+  profile-answers =
+      let t = told Levers.paper Profiled.Found Profiled.Refused (λ v. refl) (λ r. refl) profiled in
+      let back : Profiled × List ℤ = (t .answer, Levers.leversAfter kn kg profiled gz) in
+      let kept : MakesProfile kn km kg gz (back .1) (back .0) = record { answer-is = t .is; left = refl } in
+      record {
+        back = back;
+        kept = kept;
+        only = λ other k. two-same other back (profile-unique k kept);
+        numbered = numbered-as t (profile-numbered kn km kg);
+        untouched = λ e. ap (λ o. Levers.leversAfter kn kg o gz) (sym (t .is) ∙ e);
       }
 
 -- ---- the display, a hopper's surface and the condition

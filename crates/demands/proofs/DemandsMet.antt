@@ -5,6 +5,7 @@ use mathlib.Core.Path.{_≡_, refl, sym, ap, subst₂, _∙_}
 use mathlib.Core.List.{List}
 use Prim.Native.Nat.{ℕ}
 use lib.IntN.{ℤ, pos}
+use Rattle.ranges.specs.Outcome.{valueAfter}
 use Rattle.simpson.proofs.Front.{curve-two, curve-three, curve-off}
 use Rattle.simpson.proofs.Moments.{curve-exact, answer-exact}
 use Rattle.writer.proofs.Calls.{write-then-read}
@@ -39,10 +40,11 @@ use Rattle.demands.specs.HopperTanks.{HopperTanks}
 use Rattle.demands.specs.RunningTally.{RunningTally}
 use Rattle.demands.specs.SecondCalculation.{SecondCalculation}
 use Rattle.demands.specs.TwoReadings.{TwoReadings}
-use Rattle.demands.proofs.Answering.{sheet-answers, reader-answers, writer-answers, rows-answer, inclining-answers, display-answers, hopper-answers, condition-answers, totals-answer, step-answers, aboard-answers}
+use Rattle.demands.proofs.Answering.{sheet-answers, reader-answers, writer-answers, rows-answer, inclining-answers, profile-answers, display-answers, hopper-answers, condition-answers, totals-answer, step-answers, aboard-answers}
 use Rattle.demands.proofs.Hoppers.{in-order, beside-condition}
 use Rattle.demands.proofs.Inclined.{inclining-test}
 use Rattle.demands.proofs.Longer.{longer-tables}
+use Rattle.demands.proofs.Profiled.{supply-vessels}
 
 demand-1 : Demand1
 demand-1 = record {
@@ -52,6 +54,7 @@ demand-1 = record {
   of-the-rows = rows-answer;
   of-the-display = display-answers;
   of-an-inclining-test = inclining-answers;
+  of-a-supply-vessel = profile-answers;
   of-a-hopper = hopper-answers;
   of-the-condition = condition-answers;
   of-a-step = step-answers;
@@ -147,4 +150,5 @@ demands-met = record {
   longer-tables = longer-tables;
   hopper-tanks = hopper-tanks;
   inclining-test = inclining-test;
+  supply-vessels = supply-vessels;
 }

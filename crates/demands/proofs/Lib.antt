@@ -4,4 +4,5 @@ pub mod Answering
 pub mod Longer
 pub mod Hoppers
 pub mod Inclined
+pub mod Profiled
 pub mod DemandsMet

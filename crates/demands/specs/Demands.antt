@@ -37,6 +37,9 @@ use Rattle.inclining.specs.Inclining as Inclining
 use Rattle.inclining.specs.Inclining.{MakesLightShip}
 use Rattle.inclining.specs.declared.Answer.{Answer as Inclined}
 use Rattle.inclining.specs.declared.Test.{Test}
+use Rattle.levers.specs.Promise as Levers
+use Rattle.levers.specs.Promise.{MakesProfile}
+use Rattle.levers.specs.declared.Answer.{Answer as Profiled}
 use Rattle.loading.specs.Condition.{conditionAt}
 use Rattle.loading.specs.Demand.{LoweredTables, NoWorse}
 use Rattle.loading.specs.Fraction.{LessThanThreeBelow}
@@ -69,6 +72,7 @@ use Rattle.demands.specs.IncliningTest.{IncliningTest}
 use Rattle.demands.specs.LongerTables.{LongerTables}
 use Rattle.demands.specs.RunningTally.{RunningTally}
 use Rattle.demands.specs.SecondCalculation.{SecondCalculation}
+use Rattle.demands.specs.SupplyVessels.{SupplyVessels}
 use Rattle.demands.specs.TwoReadings.{TwoReadings}
 
 -- "1. Every file and every lent table gets either its answer or one numbered refusal, and the work always ends. The public calls test everything themselves.
@@ -84,6 +88,8 @@ pub record Demand1 : Type 1 where
       → AnswersOrRefuses (λ (back : MadeOrNot × List ℕ). MakesRows halfBreadths p rows (back .1) (back .0)) (λ back. Rows.paper (back .0)) (λ back. back .1 ≡ rows)
   pub of-an-inclining-test : (test : Test) (shifts : List ℕ) (off on : List ℤ) (gms : List ℕ)
       → AnswersOrRefuses (λ (back : Inclined × List ℕ). MakesLightShip test shifts off on gms (back .1) (back .0)) (λ back. Inclining.paper (back .0)) (λ back. back .1 ≡ gms)
+  pub of-a-supply-vessel : (kn : List ℕ) (km kg : ℕ) (gz : List ℤ)
+      → AnswersOrRefuses (λ (back : Profiled × List ℤ). MakesProfile kn km kg gz (back .1) (back .0)) (λ back. Levers.paper (back .0)) (λ back. back .1 ≡ gz)
   -- a step of a tally hands the tally back; lent, it leaves that one
   pub of-a-step : (step : Step) (t : Tally)
       → AnswersOrRefuses (λ (back : Stepped). back ≡ stepped t (taken step t)) Steps.paper (λ back. back .tally ≡ t)
@@ -147,3 +153,4 @@ pub record Demands : Type 1 where
   pub longer-tables : LongerTables
   pub hopper-tanks : HopperTanks
   pub inclining-test : IncliningTest
+  pub supply-vessels : SupplyVessels

@@ -1,4 +1,4 @@
--- The customer's three demands, the words that they are said in, and what the running tally, the readings of KM, the second calculation, the longer tables, the hopper tanks and the inclining test are asked.
+-- The customer's three demands, the words that they are said in, and what the running tally, the readings of KM, the second calculation, the longer tables, the hopper tanks, the inclining test and the supply vessels are asked.
 pub mod Answering
 pub mod Conditioned
 pub mod RunningTally
@@ -7,4 +7,5 @@ pub mod SecondCalculation
 pub mod LongerTables
 pub mod HopperTanks
 pub mod IncliningTest
+pub mod SupplyVessels
 pub mod Demands

@@ -2,16 +2,18 @@
 --     value-back                what a callee made of small parts is what they come to
 --     missed, met               a rule by parts, either way
 --     met-told                  what it tells that a rule is met
+--     reaches                   a rule is met just where the number is at least so much
 --     area-missed, area-met     the same of an area by the parts of a sum, and area-told
 -- Assumes nothing.
 use Prim.Native.Nat.{ℕ, _+_, _*_, _≤_, _<_}
 use mathlib.Core.Bool.{Bool, true, false}
-use mathlib.Core.Path.{_≡_, sym, ap, _∙_}
+use mathlib.Core.Logic.{_↔_}
+use mathlib.Core.Path.{_≡_, sym, ap, subst, _∙_}
 use native.Mathlib.Omega.{arith}
 use borrow.Author.Tests.{leb-true, leb-false, le-leb, lt-leb}
-use lib.Dec.{leb}
+use lib.Dec.{T, leb}
 use lib.IntN.{ℤ, pos, _-ℤ_, _*ℤ_}
-use lib.Signed.{leZ}
+use lib.Signed.{leZ, _≤ℤ_, leZ-yes}
 use Rattle.arithmetic.specs.Choice.{if_then_else_}
 use Rattle.arithmetic.specs.Signed.{nearest}
 use Rattle.arithmetic.proofs.Choice.{chosen}
@@ -49,6 +51,16 @@ module _ (least : ℕ) {v : ℤ} (a b : ℕ) (e : v ≡ pos a -ℤ pos b) where
       by-test (leb (least + b) (a + 0))
       (λ t. omega (arith, leb-true (least + b) (a + 0) t))
       (λ t. not-both (missed (omega (arith, leb-false (least + b) (a + 0) t)) ∙ is))
+
+pub reaches : (least : ℕ) (v : ℤ) → (atLeast least v ≡ Met) ↔ (pos least ≤ℤ v)
+unfolding atLeast
+reaches least v = (
+  λ is. by-test (leZ (pos least) v) (λ t. leZ-yes (subst T (sym t) tt)) (λ t. not-both (sym (simp (t, chosen)) ∙ is)),
+  λ h. simp (t-true (h .le), chosen),
+)
+  where
+    t-true : T (leZ (pos least) v) → leZ (pos least) v ≡ true
+    t-true t = by-test (leZ (pos least) v) (λ e. e) (λ e. absurd (subst T e t))
 
 module _ (least : ℕ) {v : ℤ} (a b : ℕ) (e : v ≡ pos a -ℤ pos b) where
   sum-is : pos 5_000 *ℤ v ≡ pos (5_000 * a) -ℤ pos (5_000 * b)

@@ -1,5 +1,5 @@
 -- The profile made of its parts, and what is promised of it.
---     held-within                     where the sum to t ends
+--     held-bounds, held-within        t is 15 to 30 degrees, and where the sum to it ends
 --     to-t, area-to-t, stands         that sum, its rule and the peak's, by number
 --     from-30                         the sum from 30 to 40 degrees
 --     made                            the profile, from equations of its parts
@@ -27,14 +27,14 @@ use Rattle.levers.specs.declared.Profile.{Profile}
 use Rattle.levers.specs.declared.Rule.{Rule}
 
 -- 15 to 30 degrees
-held-between : (angle : ℕ) → (15 ≤ held angle) × (held angle ≤ 30)
+pub held-bounds : (angle : ℕ) → (15 ≤ held angle) × (held angle ≤ 30)
 unfolding held
-held-between angle =
+held-bounds angle =
     if-either (λ (a : ℕ). (15 ≤ a) × (a ≤ 30)) _ (λ e. (omega arith, omega arith))
     (λ e. if-either (λ (a : ℕ). (15 ≤ a) × (a ≤ 30)) _ (λ f. (omega arith, omega arith)) (λ f. (omega (arith, ltb-false angle 15 e), omega (arith, ltb-false 30 angle f))))
 
 pub held-within : (last angle : ℕ) → degrees last ≡ held angle → Between 0 last
-held-within last angle e = let so = held-between angle in record { two = omega (arith, e); within = omega (arith, e) }
+held-within last angle e = let so = held-bounds angle in record { two = omega (arith, e); within = omega (arith, e) }
 
 module _ (gz : ℕ → ℤ) (number last : ℕ) (e : number ≡ peak gz) (f : degrees last ≡ held (degrees number)) where
   t-is : degrees last ≡ t gz

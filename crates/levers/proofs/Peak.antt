@@ -1,7 +1,7 @@
 -- The peak: "the first greatest GZ".
 --     later-greater, first-greater  of two levers the greater, by the sums of their parts
 --     peak-none, peak-more          of the first angle alone, and with one angle more
---     held-below, held-beyond, held-between     t
+--     held-below, held-beyond, held-itself     t
 --     peak-within                   it is one of the angles
 --     First, peak-first             no GZ is greater, and every one before it is less
 -- Assumes nothing.
@@ -113,6 +113,6 @@ module _ {angle : ℕ} where
   unfolding held
   held-beyond h = sym (simp (le-ltb angle 15 (omega arith), lt-ltb 30 angle h, chosen))
 
-  pub held-between : 15 ≤ angle → angle ≤ 30 → angle ≡ held angle
+  pub held-itself : 15 ≤ angle → angle ≤ 30 → angle ≡ held angle
   unfolding held
-  held-between h k = sym (simp (le-ltb angle 15 h, le-ltb 30 angle k, chosen))
+  held-itself h k = sym (simp (le-ltb angle 15 h, le-ltb 30 angle k, chosen))

@@ -91,6 +91,11 @@ in-place from [] e i h = absurd (omega arith)
 in-place from (n ∷ rest) e zero h = eqb-true n from (both (eqb n from) (inPlace (suc from) rest) e .0) ∙ omega arith
 in-place from (n ∷ rest) e (suc i) h = in-place (suc from) rest (both (eqb n from) (inPlace (suc from) rest) e .1) i (omega arith) ∙ omega arith
 
+map-at : (f : ℕ → ℤ) (l : List ℕ) (i : ℕ) → i < length l → getD (map f l) i (pos 0) ≡ f (getD l i 0)
+map-at f [] i h = absurd (omega arith)
+map-at f (n ∷ rest) zero h = refl
+map-at f (n ∷ rest) (suc i) h = map-at f rest i (omega arith)
+
 angle-at : (i : ℕ) → i < angleCount → getD angles i 0 ≡ i
 unfolding inPlace
 angle-at i h = in-place 0 angles refl i h ∙ omega arith
@@ -100,6 +105,6 @@ module _ (gz : ℕ → ℤ) where
   unfolding atEach
   levers-length = refl
 
-  pub lever-at : (i : ℕ) → i < angleCount → getD (atEach gz) i (gz 0) ≡ gz i
+  pub lever-at : (i : ℕ) → i < angleCount → getD (atEach gz) i (pos 0) ≡ gz i
   unfolding atEach
-  lever-at i h = List·getD-map gz angles i 0 ∙ ap gz (angle-at i h)
+  lever-at i h = map-at gz angles i h ∙ ap gz (angle-at i h)

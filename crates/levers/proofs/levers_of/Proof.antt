@@ -54,7 +54,7 @@ loop-again c =
     let s = l .before .before .before in
     let gz = lever (s .args .kn .now) (s .args .off .now) in (
       omega arith,
-      stored-more _ _ (l .loop .inv .1) (omega (arith, levers-length gz)) (omega arith) (gz 0) (lever-back (s .pre) (l .loop .i) (c .difference .ensures) ∙ sym (lever-at gz (l .loop .i) (omega arith))),
+      stored-more _ _ (l .loop .inv .1) (omega (arith, levers-length gz)) (omega arith) (pos 0) (lever-back (s .pre) (l .loop .i) (c .difference .ensures) ∙ sym (lever-at gz (l .loop .i) (omega arith))),
     )
 
 returns : tie.Need-returns Inv-loop μ-loop
