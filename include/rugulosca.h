@@ -56,6 +56,9 @@ enum {
     RUGULOSCA_SLOT_ROOM = 160
 };
 
+/* The angles of a supply vessel's profile: 0 to 60 degrees by 5. */
+enum { RUGULOSCA_ANGLES = 13 };
+
 /* How the vessel lies, in `wholes[6]` of a condition. */
 enum {
     RUGULOSCA_UNSTABLE = 0,
@@ -132,6 +135,19 @@ uint64_t rugulosca_light_ship(const uint64_t test[4],
                               const int64_t *on, size_t on_length,
                               uint64_t *gms, size_t gms_length,
                               uint64_t light_ship[4], size_t *place);
+
+/* The profile of a supply vessel against its alternative criterion. `kn`: KN, 0 to 20,000 mm, at each of the thirteen
+ * angles; KM and KG, 0 to 100,000 mm each, KG with free surface and rounded up. `gz`: GZ at each angle, mm, of either
+ * sign: KN less KG times the sine, that product rounded up. t is the angle of the peak, which is the first greatest GZ,
+ * but 15 degrees if below and 30 if beyond. `wholes`: the peak's angle, degrees, and then 1 for a rule that is met and
+ * 0 for one that is missed: the peak at 15 degrees or more, the area from 0 to t, the area from 30 to 40 degrees, GZ at
+ * 30 degrees of 200 mm or more, GM of 150 mm or more. `signed_numbers`: GM, which is KM less KG, and GZ at 30 degrees,
+ * mm, and the multiplied sums of GZ from 0 to t and from 30 to 40 degrees, in 24ths of 5 mm degrees. Refused in this
+ * order: 7 at 0, not thirteen numbers in `kn`; 4 at the number's position from 0 in `kn`, KM, KG. */
+uint64_t rugulosca_supply_profile(const uint64_t *kn, size_t kn_length,
+                                  uint64_t km, uint64_t kg,
+                                  int64_t gz[13], uint64_t wholes[6],
+                                  int64_t signed_numbers[4], size_t *place);
 
 /* The loading condition. `wholes`: weight, draft, KM, LCG, vertical moment, free surface, how it lies, 1 for a pass and 0
  * otherwise. `signed_numbers`: GM, transverse moment. `tangent` is left only where the vessel is heeled. A tank has free

@@ -1,7 +1,7 @@
 /* The smallest program around the library: the sheet of the file on standard input, on standard output. Before it, on a
  * barge of the program's own, its rows by both engines, a tally, which is what a crane panel does for a lift, a load by
  * both readings of KM, what is refused, with its place, the longest text that the writer writes, the free surface of a
- * hopper tank, and the light ship of an inclining test. */
+ * hopper tank, the light ship of an inclining test, and the profile of a supply vessel. */
 #include <assert.h>
 #include <stdio.h>
 #include <string.h>
@@ -180,6 +180,37 @@ static void inclining(void) {
     assert(refusal == 4 && place == 4 + 6 + 3 && gms[0] == 0);
 }
 
+/* A supply vessel with KG 5 m, whose KN at each angle is KG times the sine, rounded up, and a hump of levers above
+ * that: the peak is 420 mm at 25 degrees, the sum to it 32·120 + 17·230 + 27·330 + 27·400 + 9·420, and that from 30 to
+ * 40 degrees 8·400 + 32·350 + 8·280. With KG 751 mm higher no rule but the peak's is met. A number too few, a KN and a
+ * KM that are too great, and the KM alone are refused and leave all. */
+static void profile(void) {
+    uint64_t kn[RUGULOSCA_ANGLES] = {0, 556, 1099, 1625, 2111, 2534, 2900, 3218, 3494, 3736, 3941, 4106, 4241};
+    const int64_t levers[RUGULOSCA_ANGLES] = {0, 120, 230, 330, 400, 420, 400, 350, 280, 200, 110, 10, -90};
+    const uint64_t peak_and_rules[6] = {25, 1, 1, 1, 1, 1};
+    const int64_t gm_gz_and_sums[4] = {900, 400, 31240, 16640};
+    int64_t gz[RUGULOSCA_ANGLES];
+    uint64_t wholes[6];
+    int64_t signed_numbers[4];
+    size_t place = 77;
+    uint64_t refusal =
+        rugulosca_supply_profile(kn, RUGULOSCA_ANGLES, 5900, 5751, gz, wholes, signed_numbers, &place);
+    assert(refusal == 0 && wholes[0] == 20 && wholes[1] == 1 && signed_numbers[0] == 149 && signed_numbers[1] == 24);
+    assert(wholes[2] == 0 && wholes[3] == 0 && wholes[4] == 0 && wholes[5] == 0 && gz[12] == -740);
+    refusal = rugulosca_supply_profile(kn, RUGULOSCA_ANGLES, 5900, 5000, gz, wholes, signed_numbers, &place);
+    assert(refusal == 0 && place == 77);
+    refusal = rugulosca_supply_profile(kn, RUGULOSCA_ANGLES - 1, 5900, 5000, gz, wholes, signed_numbers, &place);
+    assert(refusal == 7 && place == 0);
+    kn[12] = 20001;
+    refusal = rugulosca_supply_profile(kn, RUGULOSCA_ANGLES, 100001, 5000, gz, wholes, signed_numbers, &place);
+    assert(refusal == 4 && place == 12);
+    kn[12] = 20000;
+    refusal = rugulosca_supply_profile(kn, RUGULOSCA_ANGLES, 100001, 5000, gz, wholes, signed_numbers, &place);
+    assert(refusal == 4 && place == RUGULOSCA_ANGLES);
+    assert(memcmp(gz, levers, sizeof gz) == 0 && memcmp(wholes, peak_and_rules, sizeof wholes) == 0);
+    assert(memcmp(signed_numbers, gm_gz_and_sums, sizeof signed_numbers) == 0);
+}
+
 int main(void) {
     /* a byte more than a file may have, so that a longer one is refused */
     static uint8_t text[RUGULOSCA_LONGEST_FILE + 1];
@@ -196,6 +227,7 @@ int main(void) {
     assert(longest_text() == RUGULOSCA_LONGEST_TEXT);
     hopper();
     inclining();
+    profile();
     read = fread(text, 1, sizeof text, stdin);
     /* room for the longest sheet is never too short, so this is never refused */
     rugulosca_report(text, read, sheet, sizeof sheet, &count, &place);

@@ -2,8 +2,8 @@
  *
  * Counted from the caller's stack pointer at the call down to the deepest word that is written: the return address, the
  * call's own frame, and those of all that it calls. Arguments that C passes on the stack lie above, in the caller's
- * frame. Each call is made with several files, rooms, intervals and pendulums, some of them refused, and the deepest
- * counts. */
+ * frame. Each call is made with several files, rooms, intervals, pendulums and KGs, some of them refused, and the
+ * deepest counts. */
 #include <assert.h>
 #include <stdio.h>
 #include <stdlib.h>
@@ -28,6 +28,12 @@ static uint64_t interval, surface[2];
 /* The largest inclining test, with the file's items to take off and to put on, its pendulum in range or not. */
 static uint64_t test[4] = {17600000, 9000, 1250000000, 0}, gms[RUGULOSCA_GM_ROOM], light_ship[4];
 static uint64_t shifts[SHIFT_WIDTH * RUGULOSCA_GM_ROOM];
+
+/* A supply vessel whose peak stands beyond 30 degrees, its KG in range or not. */
+static const uint64_t kn[RUGULOSCA_ANGLES] = {0,     3034,  5805,  8312,  10555, 12534, 14250,
+                                              15701, 16888, 17812, 18472, 18868, 19000};
+static uint64_t kg, profile_wholes[6];
+static int64_t gz[RUGULOSCA_ANGLES], profile_numbers[4];
 
 /* A tally that waits for the last item, one that has it, and both as they were before a step. */
 static struct tally {
@@ -72,6 +78,7 @@ CALL(shift, laden.slots, laden.totals, &laden.transverse, LAST_SLOT, items + 1, 
 CALL(condition_aboard, laden.slots, laden.totals, laden.transverse, tanks, RUGULOSCA_TANK_ROOM, ROWS, CONDITION)
 CALL(hopper_surface, port, WIDTHS, starboard, WIDTHS, interval, 1500, surface, &place)
 CALL(light_ship, test, SHIFTS, ITEMS, ITEMS, gms, RUGULOSCA_GM_ROOM, light_ship, &place)
+CALL(supply_profile, kn, RUGULOSCA_ANGLES, 19250, kg, gz, profile_wholes, profile_numbers, &place)
 
 #define NAMED(name) {"rugulosca_" #name, call_##name}
 static const struct call {
@@ -80,7 +87,7 @@ static const struct call {
 } calls[] = {
     NAMED(report), NAMED(report_straight_line), NAMED(read), NAMED(write), NAMED(rows), NAMED(rows_by_sections),
     NAMED(display), NAMED(condition), NAMED(condition_straight_line), NAMED(load), NAMED(discharge), NAMED(shift),
-    NAMED(condition_aboard), NAMED(hopper_surface), NAMED(light_ship),
+    NAMED(condition_aboard), NAMED(hopper_surface), NAMED(light_ship), NAMED(supply_profile),
 };
 
 /* Paints what lies below the caller's frame, from `painted` up. Each word gets its own address by a mask, so that what
@@ -142,6 +149,7 @@ int main(void) {
                 /* refused with the rooms that are too short */
                 interval = r == 0 ? 1000 : 0;
                 test[3] = r == 0 ? 10000 : 0;
+                kg = r == 0 ? 18000 : 100001;
                 /* the whole file is answered where there is room, and a second time any call takes the same */
                 size_t need = need_of(&calls[i], t == 0 && r == 0, 0);
                 assert(need == need_of(&calls[i], t == 0 && r == 0, UINTPTR_MAX));

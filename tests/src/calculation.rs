@@ -2,8 +2,9 @@
 
 #[cfg(linked)]
 use crate::calls;
-use crate::calls::{Condition, Engine, LightShip, Reading, Refusal, Summary, Surface, Tally};
+use crate::calls::{Condition, Engine, LightShip, Profile, Reading, Refusal, Summary, Surface, Tally};
 use crate::peer;
+use crate::peer::ranges::ANGLES;
 
 type Report = fn(Reading, &[u8], &mut [u8]) -> Result<usize, Refusal>;
 type Read = fn(&[u8], &mut [u64], &mut [i64], &mut [i64]) -> Result<Summary, Refusal>;
@@ -17,6 +18,7 @@ type Shift = fn(&mut Tally, usize, &[i64; 3]) -> Result<(), Refusal>;
 type AnswerAboard = fn(&Tally, &[i64], &[u64]) -> Result<Condition, Refusal>;
 type HopperSurface = fn(&[u64], &[u64], u64, u64) -> Result<Surface, Refusal>;
 type Incline = fn(&[u64; 4], &[u64], &[i64], &[i64], &mut [u64]) -> Result<LightShip, Refusal>;
+type SupplyProfile = fn(&[u64], u64, u64, &mut [i64; ANGLES]) -> Result<Profile, Refusal>;
 
 /// One calculation's calls. They are called through pointers, so that neither is drawn into the loop that times it.
 pub struct Calculation {
@@ -33,6 +35,7 @@ pub struct Calculation {
     pub condition_aboard: AnswerAboard,
     pub hopper_surface: HopperSurface,
     pub light_ship: Incline,
+    pub supply_profile: SupplyProfile,
 }
 
 pub const PEER: Calculation = Calculation {
@@ -50,6 +53,7 @@ pub const PEER: Calculation = Calculation {
     condition_aboard: peer::condition_aboard,
     hopper_surface: peer::hopper_surface,
     light_ship: peer::light_ship,
+    supply_profile: peer::supply_profile,
 };
 
 #[cfg(linked)]
@@ -67,6 +71,7 @@ pub const LIBRARY: Calculation = Calculation {
     condition_aboard: calls::condition_aboard,
     hopper_surface: calls::hopper_surface,
     light_ship: calls::light_ship,
+    supply_profile: calls::supply_profile,
 };
 
 /// What is to be tested: the own calculation, and the library's where it is linked.

@@ -1,4 +1,4 @@
-//! Rugulosca for Rust: the fifteen calls of `include/rugulosca.h` over slices, with a refusal as the error.
+//! Rugulosca for Rust: the sixteen calls of `include/rugulosca.h` over slices, with a refusal as the error.
 //!
 //! This file stands alone: a program that links `librugulosca.a` can take it as it is. Nothing is allocated or kept,
 //! and no call has a condition on its numbers, lengths or bytes.
@@ -99,6 +99,29 @@ pub struct LightShip {
     pub weight: u64,
     pub vertical_moment: u64,
     pub kg: u64,
+}
+
+/// How a supply vessel stands against the criterion of its profile: the peak's angle in degrees, GM and GZ at 30
+/// degrees in mm, and the multiplied sums of GZ from 0 to t, which is the peak's angle held from 15 to 30 degrees, and
+/// from 30 to 40 degrees, in 24ths of 5 mm·degrees.
+#[derive(Clone, Copy, Debug, PartialEq, Eq)]
+pub struct Profile {
+    pub peak: u64,
+    pub rules: Rules,
+    pub gm: i64,
+    pub gz_at_30: i64,
+    pub sum_to_t: i64,
+    pub sum_from_30_to_40: i64,
+}
+
+/// Which rules of the criterion are met.
+#[derive(Clone, Copy, Debug, PartialEq, Eq)]
+pub struct Rules {
+    pub peak: bool,
+    pub area_to_t: bool,
+    pub area_from_30_to_40: bool,
+    pub gz_at_30: bool,
+    pub gm: bool,
 }
 
 /// The header's declarations, for those who want the numbers as C sees them.
@@ -301,6 +324,17 @@ pub mod raw {
             gms: *mut u64,
             gms_length: usize,
             light_ship: *mut [u64; 4],
+            place: *mut usize,
+        ) -> u64;
+
+        pub fn rugulosca_supply_profile(
+            kn: *const u64,
+            kn_length: usize,
+            km: u64,
+            kg: u64,
+            gz: *mut [i64; 13],
+            wholes: *mut [u64; 6],
+            signed_numbers: *mut [i64; 4],
             place: *mut usize,
         ) -> u64;
     }
@@ -513,6 +547,17 @@ pub fn light_ship(
     answer(number, place, LightShip { gm, weight, vertical_moment, kg })
 }
 
+/// The profile of a supply vessel from its KN table, KM and KG; GZ at each of the thirteen angles goes into the lent
+/// table.
+pub fn supply_profile(kn: &[u64], km: u64, kg: u64, gz: &mut [i64; 13]) -> Result<Profile, Refusal> {
+    let (mut wholes, mut signed_numbers, mut place) = ([0; 6], [0; 4], 0);
+    // SAFETY: as in `report`.
+    let number = unsafe {
+        raw::rugulosca_supply_profile(kn.as_ptr(), kn.len(), km, kg, gz, &mut wholes, &mut signed_numbers, &mut place)
+    };
+    answer(number, place, profile_of(wholes, signed_numbers))
+}
+
 /// The answer where the number is 0, and the refusal otherwise.
 fn answer<T>(number: u64, place: usize, value: T) -> Result<T, Refusal> {
     match number {
@@ -532,4 +577,13 @@ fn condition_of(wholes: [u64; 8], signed_numbers: [i64; 2], tangent: f64) -> Con
         _ => Heel::Beyond,
     };
     Condition { weight, draft, km, lcg, vertical_moment, free_surface, gm, transverse_moment, heel, passes: pass == 1 }
+}
+
+/// The record of a profile from the header's two groups of numbers.
+fn profile_of(wholes: [u64; 6], signed_numbers: [i64; 4]) -> Profile {
+    let [peak, rules @ ..] = wholes;
+    let [peak_met, area_to_t, area_from_30_to_40, gz_at_30_met, gm_met] = rules.map(|met| met == 1);
+    let rules = Rules { peak: peak_met, area_to_t, area_from_30_to_40, gz_at_30: gz_at_30_met, gm: gm_met };
+    let [gm, gz_at_30, sum_to_t, sum_from_30_to_40] = signed_numbers;
+    Profile { peak, rules, gm, gz_at_30, sum_to_t, sum_from_30_to_40 }
 }

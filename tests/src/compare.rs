@@ -8,7 +8,9 @@ mod inclining;
 mod lengths;
 mod observation;
 mod outcomes;
+mod profiles;
 mod readings;
+mod refused_profiles;
 mod refused_tests;
 mod round_trip;
 mod settled;
@@ -53,6 +55,7 @@ pub fn replay(seed: u64, number: u64) -> bool {
             call.rows_by_both_engines().iter().flatten().for_each(show);
             call.with_middle_line_moved().iter().flatten().for_each(show);
             call.with_test_altered().iter().flatten().for_each(show);
+            call.with_kg_lowered().iter().flatten().for_each(show);
         }
         Case::History(steps) => {
             for (call, list) in history::calls(steps) {
@@ -75,8 +78,8 @@ fn show(call: &Call) {
 }
 
 /// Examines each call of a case; the steps of a history must also be the list's, the two readings of KM must fit, both
-/// engines must make the same of a hull, a surface must be the same with its middle line moved, and a light ship must fit
-/// its test altered.
+/// engines must make the same of a hull, a surface must be the same with its middle line moved, a light ship must fit
+/// its test altered, and a profile its KG lowered.
 fn examine(case: &Case, wrapped: bool, outcomes: &mut Outcomes) -> Result<(), String> {
     match case {
         Case::Call(call) => {
@@ -98,6 +101,11 @@ fn examine(case: &Case, wrapped: bool, outcomes: &mut Outcomes) -> Result<(), St
                 let [turned, larger, filled] = altered.each_ref().map(|altered| examine_call(altered, wrapped));
                 inclining::fits(call, &library, [turned?, larger?, filled?])?;
                 outcome.altered = altered.map(|altered| altered != *call);
+            }
+            for (i, lower) in call.with_kg_lowered().into_iter().flatten().enumerate() {
+                let turned = profiles::examine_lower(&library, &examine_call(&lower, wrapped)?)?;
+                outcome.turned = std::array::from_fn(|rule| outcome.turned[rule] || turned[rule]);
+                outcome.lowered[i] = lower != *call;
             }
             outcomes.add(&outcome);
         }
@@ -135,6 +143,7 @@ fn examine_call(call: &Call, wrapped: bool) -> Result<Observation, String> {
     if library.number == 0 {
         round_trip::examine(call, &library)?;
         inclining::examine(call, &library)?;
+        profiles::examine(call, &library)?;
     }
     Ok(library)
 }

@@ -1,5 +1,6 @@
 //! Cases for the comparison, drawn from a seed: each case depends on the seed and its own number alone.
 
+mod damaged_profiles;
 mod damaged_tests;
 mod edges;
 mod hoppers;
@@ -7,6 +8,7 @@ mod hulls;
 mod inclining;
 mod layouts;
 mod loads;
+mod profiles;
 mod random;
 mod row_tables;
 mod tallies;
@@ -17,6 +19,8 @@ mod trial_hoppers;
 #[cfg(test)]
 mod trial_inclining;
 #[cfg(test)]
+mod trial_profiles;
+#[cfg(test)]
 mod trial_texts;
 
 use crate::calculation::PEER;
@@ -24,11 +28,12 @@ use crate::calls::{Engine, Reading, Summary, Tally};
 use crate::hopper::Hopper;
 use crate::inclining::Inclining;
 use crate::peer;
-use crate::peer::ranges::{half_breadth_count, HALF_BREADTH, ITEM, PARTICULARS, ROW, TANK};
+use crate::peer::ranges::{half_breadth_count, ANGLES, HALF_BREADTH, ITEM, PARTICULARS, ROW, TANK};
 use crate::peer::ranges::{HALF_BREADTH_ROOM, ITEM_ROOM, ROW_ROOM, SHEET_ROOM, TANK_ROOM};
 use crate::peer::ranges::{MOST_INTERVALS, MOST_WATERLINES};
 use crate::peer::tally::SLOTS;
 use crate::step::Step;
+use crate::vessel::Vessel;
 use edges::{damage_number, damage_records, damage_size, edge};
 use hulls::Hull;
 pub use layouts::{MOST_DIGITS, SEPARATORS};
@@ -60,6 +65,7 @@ pub enum Call {
     Aboard { tally: Box<Tally>, tanks: Vec<i64>, rows: Vec<u64> },
     Surface { hopper: Hopper },
     LightShip { inclining: Inclining, room: usize },
+    Profile { vessel: Vessel },
 }
 
 /// The numbers of an offset file.
@@ -94,7 +100,7 @@ impl FileNumbers {
 impl Case {
     pub fn generate(seed: u64, number: u64) -> Case {
         let random = &mut Random::for_case(seed, number);
-        Case::Call(match random.below(24) {
+        Case::Call(match random.below(26) {
             0..=4 => report(random),
             5..=7 => read(random),
             8..=9 => write(random),
@@ -105,6 +111,7 @@ impl Case {
             18 => aboard(random),
             19..=20 => surface(random),
             21..=22 => light_ship(random),
+            23..=24 => profile(random),
             _ => return Case::History(tallies::history(random)),
         })
     }
@@ -152,6 +159,16 @@ impl Call {
                 let altered =
                     [inclining.turned(), inclining.with_surface_of(light_ship.vertical_moment), inclining.filled()];
                 Some(altered.map(|inclining| Call::LightShip { inclining, room: *room }))
+            }
+            _ => None,
+        }
+    }
+
+    /// The call's supply vessel, where it is answered, with a lower KG.
+    pub fn with_kg_lowered(&self) -> Option<[Call; 3]> {
+        match self {
+            Call::Profile { vessel } if vessel.by(&PEER, &mut [0; ANGLES]).is_ok() => {
+                Some(vessel.lowered().map(|vessel| Call::Profile { vessel }))
             }
             _ => None,
         }
@@ -366,4 +383,12 @@ fn light_ship(random: &mut Random) -> Call {
         damaged_tests::damage(random, &mut inclining, &mut room);
     }
     Call::LightShip { inclining, room }
+}
+
+fn profile(random: &mut Random) -> Call {
+    let mut vessel = profiles::vessel(random);
+    for _ in 0..damages(random) {
+        damaged_profiles::damage(random, &mut vessel);
+    }
+    Call::Profile { vessel }
 }

@@ -20,6 +20,7 @@ mod peer;
 mod samples;
 mod step;
 mod vectors;
+mod vessel;
 
 use std::env;
 use std::path::Path;
@@ -28,7 +29,7 @@ use std::process::ExitCode;
 const USAGE: &str = "usage: outside compare SEED CASES | replay SEED CASE | vectors FOLDER | measure
        outside file FILE | repeat library|peer CALL FILE TIMES
        FILE: smallest|sample|forty|largest
-       CALL: read|rows|sections|condition|report|write|load|discharge|aboard|hopper|inclining";
+       CALL: read|rows|sections|condition|report|write|load|discharge|aboard|hopper|inclining|profile";
 
 fn main() -> ExitCode {
     let arguments: Vec<String> = env::args().skip(1).collect();

@@ -5,24 +5,37 @@ use crate::calls::{Engine, Reading, Tally};
 use crate::generate::FileNumbers;
 use crate::hopper::Hopper;
 use crate::inclining::Inclining;
-use crate::peer::ranges::{HALF_BREADTH_ROOM, ITEM_ROOM, MOST_SHIFTS, ROW, ROW_ROOM, TANK_ROOM};
+use crate::peer::ranges::{ANGLES, HALF_BREADTH_ROOM, ITEM_ROOM, MOST_SHIFTS, ROW, ROW_ROOM, TANK_ROOM};
 use crate::peer::tally::SLOT_NUMBERS;
 use crate::peer::LONGEST_TEXT;
 use crate::samples;
+use crate::vessel::Vessel;
 use std::hint::black_box;
 use std::time::{Duration, Instant};
 
 const ROUNDS: usize = 40;
 const ROUND_TIME: Duration = Duration::from_millis(5);
-const CALLS: [&str; 11] =
-    ["read", "rows", "sections", "condition", "report", "write", "load", "discharge", "aboard", "hopper", "inclining"];
+const CALLS: [&str; 12] = [
+    "read",
+    "rows",
+    "sections",
+    "condition",
+    "report",
+    "write",
+    "load",
+    "discharge",
+    "aboard",
+    "hopper",
+    "inclining",
+    "profile",
+];
 
 /// Prints the times of every call on every file.
 pub fn run() {
     println!("ns per call: the median and the least of {ROUNDS} rounds of about {ROUND_TIME:?}, the two in turn.");
     println!("Tables and rooms are lent again as the call before left them; they are not cleared between calls.");
     println!("A tally has the file's items, one a slot; load and discharge are of the last of them, put back by hand.");
-    println!("A hopper tank and an inclining test are no part of a file: they are the largest beside each.");
+    println!("A hopper tank, an inclining test and a profile are no part of a file: they are the largest beside each.");
     println!("{:10} {:9} {:>19} {:>19} {:>13}", "call", "file", "library", "peer", "library/peer");
     for file in samples::NAMES {
         let mut lent = Lent::of(file).expect("the file has a name");
@@ -97,8 +110,8 @@ fn calls_in_a_round(call: &str, lent: &mut Lent) -> u64 {
     times
 }
 
-/// A file with its numbers, a tally of its items, the largest hopper tank and inclining test, and the tables and rooms that
-/// are lent.
+/// A file with its numbers, a tally of its items, the largest hopper tank, inclining test and supply vessel, and the
+/// tables and rooms that are lent.
 struct Lent {
     text: Vec<u8>,
     particulars: [u64; 5],
@@ -109,8 +122,10 @@ struct Lent {
     lift: Lift,
     hopper: Hopper,
     inclining: Inclining,
+    vessel: Vessel,
     room: Vec<u8>,
     gms: [u64; MOST_SHIFTS],
+    gz: [i64; ANGLES],
     tables: (Vec<u64>, Vec<i64>, Vec<i64>, Vec<u64>),
 }
 
@@ -123,14 +138,27 @@ impl Lent {
         let rows = tables.3[..ROW.len() * count].to_vec();
         (PEER.condition)(Reading::default(), &items, &tanks, &rows).ok()?;
         let lift = Lift::of(&items)?;
-        let (hopper, inclining) = (samples::largest_hopper(), samples::largest_inclining());
-        let (text, room, gms) = (text.into_bytes(), vec![0; LONGEST_TEXT], [0; MOST_SHIFTS]);
-        Some(Lent { text, particulars, half_breadths, items, tanks, rows, lift, hopper, inclining, room, gms, tables })
+        Some(Lent {
+            text: text.into_bytes(),
+            particulars,
+            half_breadths,
+            items,
+            tanks,
+            rows,
+            lift,
+            hopper: samples::largest_hopper(),
+            inclining: samples::largest_inclining(),
+            vessel: samples::largest_vessel(),
+            room: vec![0; LONGEST_TEXT],
+            gms: [0; MOST_SHIFTS],
+            gz: [0; ANGLES],
+            tables,
+        })
     }
 
     fn call(&mut self, calculation: &Calculation, call: &str, times: u64) {
-        let Lent { text, particulars, half_breadths, items, tanks, rows, lift, hopper, inclining, room, gms, tables } =
-            self;
+        let Lent { text, particulars, half_breadths, items, tanks, rows, lift, .. } = self;
+        let Lent { hopper, inclining, vessel, room, gms, gz, tables, .. } = self;
         let Lift { slot, item, before, after } = lift;
         let (read_half_breadths, read_items, read_tanks, made_rows) = tables;
         let reading = Reading::default();
@@ -180,6 +208,11 @@ impl Lent {
             "inclining" => repeatedly(times, || {
                 let answer = black_box(black_box(&*inclining).by(calculation, gms));
                 black_box(&gms);
+                answer.is_ok()
+            }),
+            "profile" => repeatedly(times, || {
+                let answer = black_box(black_box(&*vessel).by(calculation, gz));
+                black_box(&gz);
                 answer.is_ok()
             }),
             _ => repeatedly(times, || {

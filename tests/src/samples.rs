@@ -1,12 +1,14 @@
 //! Files with a name: the paper's sample, the smallest that gives a condition, the largest, and one of forty intervals of
-//! length, which is the largest's hull with half as many. Beside them the largest hopper tank and inclining test.
+//! length, which is the largest's hull with half as many. Beside them the largest hopper tank and inclining test,
+//! and a large profile.
 
 #[cfg(test)]
 use crate::calls::Reading;
 use crate::hopper::Hopper;
 use crate::inclining::Inclining;
-use crate::peer::ranges::{LONGEST_HULL, MOST_INTERVALS, MOST_ITEMS, MOST_SHIFTS};
+use crate::peer::ranges::{ANGLES, LONGEST_HULL, MOST_INTERVALS, MOST_ITEMS, MOST_SHIFTS};
 use crate::peer::ranges::{MOST_TANKS, MOST_WATERLINES, MOST_WIDTHS};
+use crate::vessel::Vessel;
 
 pub const NAMES: [&str; 4] = ["smallest", "sample", "forty", "largest"];
 
@@ -116,6 +118,13 @@ pub fn largest_inclining() -> Inclining {
         off: (0..ITEMS).flat_map(item(12_500)).collect(),
         on: (0..ITEMS).flat_map(item(5_750)).collect(),
     }
+}
+
+/// Five digits for most of KN, KM and KG, and the peak beyond 30 degrees, so that its sum goes as far as may be.
+pub fn largest_vessel() -> Vessel {
+    let last = ANGLES as u64 - 1;
+    let kn = (0..=last).map(|i| 19_000 * i * (2 * last - i) / (last * last)).collect();
+    Vessel { kn, km: 19_250, kg: 18_000 }
 }
 
 fn line(text: &mut String, numbers: impl IntoIterator<Item = i64>) {

@@ -1,9 +1,11 @@
 //! Answers worked out elsewhere, byte for byte: each `.txt` file's sheet must be its `.out` file, that of a
 //! `straight-line-` `.txt` file by the straight line, and so must the totals after each step of a `tally-` `.in` file,
-//! the free surface of a `hopper-` `.in` file, and the light ship of an `inclining-` `.in` file.
+//! the free surface of a `hopper-` `.in` file, the light ship of an `inclining-` `.in` file, and the profile of a
+//! `profile-` `.in` file.
 
 mod hoppers;
 mod inclining;
+mod profiles;
 mod steps;
 
 use crate::calculation::{Calculation, CALCULATIONS};
@@ -21,6 +23,7 @@ pub fn run(folder: &Path) -> io::Result<bool> {
     let tallies = inputs(folder, "tally-", ".in")?;
     let hoppers = inputs(folder, "hopper-", ".in")?;
     let tests = inputs(folder, "inclining-", ".in")?;
+    let profiles = inputs(folder, "profile-", ".in")?;
     let mut agree = true;
     for calculation in CALCULATIONS {
         let name = calculation.name;
@@ -30,6 +33,7 @@ pub fn run(folder: &Path) -> io::Result<bool> {
         agree &= all_agree(name, "tallies", &tallies, |input| steps::by_calculation(calculation, input))?;
         agree &= all_agree(name, "hopper tanks", &hoppers, |input| hoppers::by_calculation(calculation, input))?;
         agree &= all_agree(name, "inclining tests", &tests, |input| inclining::by_calculation(calculation, input))?;
+        agree &= all_agree(name, "profiles", &profiles, |input| profiles::by_calculation(calculation, input))?;
     }
     agree &= all_agree("peer's list", "tallies", &tallies, steps::by_list)?;
     Ok(agree)

@@ -3,6 +3,7 @@ use crate::data;
 use crate::data::Call;
 use crate::data::Kind;
 use crate::inclinings;
+use crate::profiles;
 use crate::say;
 use crate::surfaces;
 use crate::tallies;
@@ -13,6 +14,8 @@ const FEWEST_TALLIES: u64 = 40;
 const FEWEST_HOPPERS: u64 = 52;
 
 const FEWEST_INCLININGS: u64 = 52;
+
+const FEWEST_PROFILES: u64 = 52;
 
 // Room for a case, and for its answer.
 const LONGEST: usize = 16_384;
@@ -29,6 +32,11 @@ pub(crate) fn try_all() {
         Call::Inclining,
         FEWEST_INCLININGS,
         b"inclining tests that differ ",
+    );
+    try_call(
+        Call::Profile,
+        FEWEST_PROFILES,
+        b"supply-vessel profiles that differ ",
     );
 }
 
@@ -79,5 +87,6 @@ fn is_answered(call: Call, text: &[u8], answer: &[u8]) -> bool {
         Call::Tally => tallies::is_answered(text, answer),
         Call::Hopper => surfaces::is_answered(text, answer),
         Call::Inclining => inclinings::is_answered(text, answer),
+        Call::Profile => profiles::is_answered(text, answer),
     }
 }

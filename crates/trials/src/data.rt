@@ -15,10 +15,11 @@ pub(crate) enum Call {
     Tally,
     Hopper,
     Inclining,
+    Profile,
 }
 
 // What a file holds: the offsets of NNN.txt and the sheet of NNN.out, or of straight-line-NNN.txt and straight-line-NNN.out where KM is read
-// so; what is given to a call and its answer, tally-NNN.in and tally-NNN.out, hopper-NNN.in and hopper-NNN.out, inclining-NNN.in and inclining-NNN.out.
+// so; what is given to a call and its answer, CALL-NNN.in and CALL-NNN.out, where CALL is tally, hopper, inclining or profile.
 pub(crate) enum Kind {
     Offsets(Reading),
     Sheet(Reading),
@@ -82,6 +83,7 @@ fn open_of(call: Call, i: u64, end: &[u8]) -> i32
         Call::Tally => open_named(b"tally-", i, end),
         Call::Hopper => open_named(b"hopper-", i, end),
         Call::Inclining => open_named(b"inclining-", i, end),
+        Call::Profile => open_named(b"profile-", i, end),
     }
 }
 

@@ -196,7 +196,7 @@ fn is_same_hull(p: Particulars, q: Particulars) -> bool {
 }
 
 // Whether a table starts with these numbers.
-fn starts(front: &[i64], table: &[i64]) -> bool {
+pub(crate) fn starts(front: &[i64], table: &[i64]) -> bool {
     if table.len() < front.len() {
         return false;
     }

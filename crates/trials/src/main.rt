@@ -7,6 +7,7 @@ mod files;
 mod hulls;
 mod inclinings;
 mod places;
+mod profiles;
 mod say;
 mod surfaces;
 mod tables;

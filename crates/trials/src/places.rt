@@ -41,14 +41,19 @@ pub(crate) fn after(text: &[u8], at: usize, piece: &[u8]) -> usize {
     NOWHERE
 }
 
-// The place after a space and a number.
-pub(crate) fn after_number(text: &[u8], at: usize, v: i64) -> usize {
+// The place after a number.
+pub(crate) fn after_value(text: &[u8], at: usize, v: i64) -> usize {
     let mut printed = [0u8; MOST_PRINTED];
     let count = numerals::print(v, &mut printed);
     if MOST_PRINTED < count {
         return NOWHERE;
     }
-    after(text, after(text, at, b" "), &printed[0..count])
+    after(text, at, &printed[0..count])
+}
+
+// The place after a space and a number.
+pub(crate) fn after_number(text: &[u8], at: usize, v: i64) -> usize {
+    after_value(text, after(text, at, b" "), v)
 }
 
 // The number at a place.

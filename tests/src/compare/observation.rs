@@ -1,12 +1,14 @@
 //! All that can be seen of a call: its number, place and values, and every lent table and room afterwards.
 
 use crate::calculation::Calculation;
-use crate::calls::{raw, Condition, Engine, Heel, LightShip, Reading, Refusal, Tally};
+use crate::calls::{raw, Condition, Engine, Heel, LightShip, Profile, Reading, Refusal, Rules, Tally};
 use crate::generate::{pattern, Call, FileNumbers};
 use crate::hopper::Hopper;
 use crate::inclining::Inclining;
+use crate::peer::ranges::ANGLES;
 use crate::peer::History;
 use crate::step::Step;
+use crate::vessel::Vessel;
 
 /// The numbers a call answers with, floats by their bits: at most the eleven of a condition.
 type Values = [u64; 11];
@@ -14,6 +16,8 @@ type Values = [u64; 11];
 pub const GM: usize = 8;
 pub const TRANSVERSE_MOMENT: usize = 9;
 const TANGENT: usize = 10;
+/// Where a profile's signed numbers stand, after its wholes.
+pub const PROFILE_SIGNED: usize = 6;
 
 #[derive(Clone, Debug, PartialEq)]
 pub struct Observation {
@@ -28,6 +32,8 @@ pub struct Observation {
     pub tanks: Vec<i64>,
     /// The tally of a step.
     pub tally: Tally,
+    /// The levers of a profile.
+    pub gz: [i64; ANGLES],
 }
 
 impl Observation {
@@ -52,6 +58,7 @@ impl Observation {
             items: (0..items).map(|i| pattern(i) as i64).collect(),
             tanks: (0..tanks).map(|i| pattern(i) as i64).collect(),
             tally,
+            gz: std::array::from_fn(|i| pattern(i) as i64),
         }
     }
 
@@ -68,6 +75,7 @@ impl Observation {
             Call::Aboard { tally, tanks, rows } => self.raw_aboard(tally, tanks, rows),
             Call::Surface { hopper } => self.raw_surface(hopper),
             Call::LightShip { inclining, .. } => self.raw_light_ship(inclining),
+            Call::Profile { vessel } => self.raw_profile(vessel),
         };
         self
     }
@@ -230,6 +238,26 @@ impl Observation {
         }
     }
 
+    fn raw_profile(&mut self, vessel: &Vessel) -> u64 {
+        let Vessel { kn, km, kg } = vessel;
+        let (wholes, rest) = self.values.split_first_chunk_mut::<PROFILE_SIGNED>().expect("six of eleven");
+        let mut signed = std::array::from_fn(|i| rest[i] as i64);
+        let number = unsafe {
+            raw::rugulosca_supply_profile(
+                kn.as_ptr(),
+                kn.len(),
+                *km,
+                *kg,
+                &mut self.gz,
+                wholes,
+                &mut signed,
+                &mut self.place,
+            )
+        };
+        rest[..signed.len()].copy_from_slice(&signed.map(|number| number as u64));
+        number
+    }
+
     /// Lends a condition's values to a call, and takes them back in the header's order.
     fn settle(&mut self, call: impl Fn(&mut [u64; 8], &mut [i64; 2], &mut f64, &mut usize) -> u64) -> u64 {
         let mut signed = [self.values[GM] as i64, self.values[TRANSVERSE_MOMENT] as i64];
@@ -288,6 +316,10 @@ impl Observation {
                     values[..4].copy_from_slice(&[gm, weight, vertical_moment, kg]);
                 });
             }
+            Call::Profile { vessel } => {
+                let answer = vessel.by(calculation, &mut self.gz);
+                self.note(answer, note_profile);
+            }
         }
         self
     }
@@ -319,6 +351,7 @@ impl Observation {
             ("items", self.items == peer.items),
             ("tanks", self.tanks == peer.tanks),
             ("tallies", self.tally == peer.tally),
+            ("levers", self.gz == peer.gz),
         ];
         match parts.iter().find(|(_, same)| !same) {
             None => Ok(()),
@@ -358,4 +391,15 @@ fn note_condition(condition: Condition, values: &mut Values) {
     if let Heel::Heeled(tangent) = heel {
         values[TANGENT] = tangent.to_bits();
     }
+}
+
+/// A profile's values in the header's order.
+fn note_profile(profile: Profile, values: &mut Values) {
+    let Profile { peak, rules, gm, gz_at_30, sum_to_t, sum_from_30_to_40 } = profile;
+    let Rules { peak: peak_met, area_to_t, area_from_30_to_40, gz_at_30: gz_met, gm: gm_met } = rules;
+    let met = [peak_met, area_to_t, area_from_30_to_40, gz_met, gm_met];
+    let signed = [gm, gz_at_30, sum_to_t, sum_from_30_to_40];
+    values[0] = peak;
+    values[1..PROFILE_SIGNED].copy_from_slice(&met.map(u64::from));
+    values[PROFILE_SIGNED..PROFILE_SIGNED + signed.len()].copy_from_slice(&signed.map(|number| number as u64));
 }

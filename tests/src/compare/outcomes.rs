@@ -6,22 +6,24 @@ use super::hoppers::{refused_surface, surface, MIDDLE_LINES, REFUSED_SURFACES, S
 use super::inclining::{inclining, light_ship, ALTERATIONS, INCLININGS, LIGHT_SHIPS};
 use super::lengths::{lengths, LENGTHS, LENGTHS_BY_NUMBERS};
 use super::observation::Observation;
+use super::profiles::{peak, profile, rules, vessel, LOWERED, PEAKS, PROFILES, RULES, TURNED, VESSELS};
 use super::readings::{flotation, FLOTATIONS, READINGS};
+use super::refused_profiles::{refused_profile, REFUSED_PROFILES};
 use super::refused_tests::{orders, refused_test, ORDERS, REFUSED_TESTS};
 use super::settled::{Settled, HEELS};
 use super::spellings::{in_text, in_token, IN_TEXTS, IN_TOKENS};
 use crate::calls::{Engine, Refusal, Tally};
 use crate::generate::Call;
 use crate::peer::condition::PRESSED_UP;
-use crate::peer::ranges::{ITEM, ITEM_PLACES, ITEM_ROOM, LONGEST_FILE, MOST_SHIFTS, MOST_WIDTHS, SHIFT};
-use crate::peer::ranges::{TANK, TANK_PLACES, TEST};
+use crate::peer::ranges::{ANGLES, ITEM, ITEM_PLACES, ITEM_ROOM, KM_AND_KG, LONGEST_FILE, MOST_SHIFTS, MOST_WIDTHS};
+use crate::peer::ranges::{SHIFT, TANK, TANK_PLACES, TEST};
 use crate::peer::tally::SLOT_NUMBERS;
 use crate::step::Step;
 use std::cmp::Ordering;
 use std::collections::BTreeSet;
 
 /// Sections are counted of every hull, whichever call it stands in.
-const CALLS: [&str; 13] = [
+const CALLS: [&str; 14] = [
     "report",
     "read",
     "write",
@@ -35,6 +37,7 @@ const CALLS: [&str; 13] = [
     "aboard",
     "hopper",
     "inclining",
+    "profile",
 ];
 const REPORT: usize = 0;
 const READ: usize = 1;
@@ -59,11 +62,12 @@ const ALLOWED: [&[usize]; CALLS.len()] = [
     &[4, 7, 10, 11, 12, 13, 22],
     &[4, 7],
     &[4, 7, 20, 21],
+    &[4, 7],
 ];
 const ROWS_ALLOWED: &[usize] = &[4, 7, 8, 9];
-/// Places that must be seen: of a file too long, of every table whose size a call may refuse, of the first item and tank,
-/// of every number of a step, of the first slot, the last and the first beyond, and of the first number of a hopper tank
-/// and of an inclining test and the last of the largest.
+/// Places that must be seen: of a file too long, of every table whose size a call may refuse, of the first item and
+/// tank, of every number of a step, of the first slot, the last and the first beyond, of the first number of a hopper
+/// tank and of an inclining test and the last of the largest, and of every number of a supply vessel.
 const PLACES: [&[(usize, usize)]; CALLS.len()] = [
     &[(1, LONGEST_FILE), (13, TANK_PLACES)],
     &[(1, LONGEST_FILE), (7, 0), (7, 1), (7, 2)],
@@ -78,9 +82,19 @@ const PLACES: [&[(usize, usize)]; CALLS.len()] = [
     &[(4, TANK_PLACES), (7, 2), (7, 3), (13, TANK_PLACES), (22, 0)],
     &[(4, 0), (4, 2 * MOST_WIDTHS + 1), (7, 0)],
     &[(4, 0), (4, LAST_OF_INCLINING), (7, 0), (7, 1), (7, 2), (7, 3), (20, 0), (21, 0)],
+    &PROFILE_PLACES,
 ];
 const ROWS_PLACES: &[(usize, usize)] = &[(7, 0), (7, 3)];
 const LAST_OF_INCLINING: usize = TEST.len() + MOST_SHIFTS * SHIFT.len() + 2 * ITEM_ROOM - 1;
+const PROFILE_PLACES: [(usize, usize); ANGLES + 3] = {
+    let mut places = [(7, 0); ANGLES + 3];
+    let mut place = 0;
+    while place < ANGLES + KM_AND_KG.len() {
+        places[place] = (4, place);
+        place += 1;
+    }
+    places
+};
 /// By number; those without a name are no call's.
 const REFUSALS: [&str; 23] = [
     "answered",
@@ -119,10 +133,12 @@ const STATES: [&str; 4] = ["empty", "full", "with another mark than 1", "with so
 
 /// What came out of one call: 0 or the refusal's number, how the vessel lies and where it floats where that was found,
 /// what the other reading of KM made of it, what both engines made of its hull, how long that is, which of its
-/// half-breadths it is refused for, how many of the condition's tanks are filled how, in which states the tally was that
-/// a step was answered on, what editors left in the text that was read or in its token that is no number, what a hopper
-/// tank's surface is like or is refused for, and to which sides its middle line was moved, and what an inclining test and
-/// its light ship are like or are refused for, before what, and how the test was altered.
+/// half-breadths it is refused for, how many of the condition's tanks are filled how, in which states the tally was
+/// that a step was answered on, what editors left in the text that was read or in its token that is no number, what a
+/// hopper tank's surface is like or is refused for, and to which sides its middle line was moved, what an inclining
+/// test and its light ship are like or are refused for, before what, and how the test was altered, and where the peak
+/// of a profile stands, what its vessel, it and its rules are like or the vessel is refused for, how its KG was
+/// lowered, and what that turned.
 pub struct Outcome {
     call: usize,
     refusal: usize,
@@ -145,6 +161,13 @@ pub struct Outcome {
     refused_test: [bool; REFUSED_TESTS.len()],
     order: [bool; ORDERS.len()],
     pub altered: [bool; ALTERATIONS.len()],
+    peak: [bool; PEAKS.len()],
+    vessel: [bool; VESSELS.len()],
+    profile: [bool; PROFILES.len()],
+    rules: [bool; RULES.len()],
+    refused_profile: [bool; REFUSED_PROFILES.len()],
+    pub lowered: [bool; LOWERED.len()],
+    pub turned: [bool; TURNED.len()],
 }
 
 impl Outcome {
@@ -171,6 +194,13 @@ impl Outcome {
             refused_test: Default::default(),
             order: Default::default(),
             altered: Default::default(),
+            peak: Default::default(),
+            vessel: Default::default(),
+            profile: Default::default(),
+            rules: Default::default(),
+            refused_profile: Default::default(),
+            lowered: Default::default(),
+            turned: Default::default(),
         };
         match Settled::of(call, seen) {
             Some(Ok(settled)) => {
@@ -194,6 +224,12 @@ impl Outcome {
                     outcome.inclining = inclining(test, seen);
                     outcome.light_ship = light_ship(test, seen);
                 }
+                Call::Profile { vessel: of } => {
+                    outcome.vessel = vessel(of);
+                    outcome.peak = peak(seen);
+                    outcome.profile = profile(seen);
+                    outcome.rules = rules(seen);
+                }
                 _ => {}
             }
         } else {
@@ -203,6 +239,7 @@ impl Outcome {
                     outcome.refused_test = refused_test(test, seen);
                     outcome.order = orders(test, seen);
                 }
+                Call::Profile { vessel } => outcome.refused_profile = refused_profile(vessel, seen),
                 _ => {}
             }
         }
@@ -229,6 +266,7 @@ fn index(call: &Call) -> usize {
         Call::Aboard { .. } => ABOARD,
         Call::Surface { .. } => 11,
         Call::LightShip { .. } => 12,
+        Call::Profile { .. } => 13,
     }
 }
 
@@ -276,6 +314,13 @@ pub struct Outcomes {
     refused_tests: [u64; REFUSED_TESTS.len()],
     orders: [u64; ORDERS.len()],
     altered: [u64; ALTERATIONS.len()],
+    peaks: [u64; PEAKS.len()],
+    vessels: [u64; VESSELS.len()],
+    profiles: [u64; PROFILES.len()],
+    rules: [u64; RULES.len()],
+    refused_profiles: [u64; REFUSED_PROFILES.len()],
+    lowered: [u64; LOWERED.len()],
+    turned: [u64; TURNED.len()],
 }
 
 impl Outcomes {
@@ -308,6 +353,13 @@ impl Outcomes {
         count(&mut self.refused_tests, outcome.refused_test);
         count(&mut self.orders, outcome.order);
         count(&mut self.altered, outcome.altered);
+        count(&mut self.peaks, outcome.peak);
+        count(&mut self.vessels, outcome.vessel);
+        count(&mut self.profiles, outcome.profile);
+        count(&mut self.rules, outcome.rules);
+        count(&mut self.refused_profiles, outcome.refused_profile);
+        count(&mut self.lowered, outcome.lowered);
+        count(&mut self.turned, outcome.turned);
     }
 
     pub fn print(&self) {
@@ -332,6 +384,13 @@ impl Outcomes {
         println!("inclining tests refused for {}", listed(&REFUSED_TESTS, &self.refused_tests));
         println!("inclining tests refused for {}", listed(&ORDERS, &self.orders));
         println!("inclining tests with {}", listed(&ALTERATIONS, &self.altered));
+        println!("profiles with their peak {}", listed(&PEAKS, &self.peaks));
+        println!("profiles answered with {}", listed(&VESSELS, &self.vessels));
+        println!("profiles with {}", listed(&PROFILES, &self.profiles));
+        println!("profiles with {}", listed(&RULES, &self.rules));
+        println!("profiles refused for {}", listed(&REFUSED_PROFILES, &self.refused_profiles));
+        println!("profiles with {}", listed(&LOWERED, &self.lowered));
+        println!("profiles that a lower KG turned to {}", listed(&TURNED, &self.turned));
         for (call, name) in CALLS.iter().enumerate() {
             let seen = ALLOWED[call].iter().filter(|&&refusal| self.refusals[call][refusal] > 0).count();
             println!("{name}: refusals allowed {:?}, {seen} of {} seen", ALLOWED[call], ALLOWED[call].len());
@@ -386,6 +445,13 @@ impl Outcomes {
         missing.extend(never("inclining test refused", &REFUSED_TESTS, &self.refused_tests));
         missing.extend(never("inclining test refused", &ORDERS, &self.orders));
         missing.extend(never("inclining test altered", &ALTERATIONS, &self.altered));
+        missing.extend(never("peak of a profile", &PEAKS, &self.peaks));
+        missing.extend(never("profile answered", &VESSELS, &self.vessels));
+        missing.extend(never("profile", &PROFILES, &self.profiles));
+        missing.extend(never("rules of a profile", &RULES, &self.rules));
+        missing.extend(never("profile refused", &REFUSED_PROFILES, &self.refused_profiles));
+        missing.extend(never("profile altered", &LOWERED, &self.lowered));
+        missing.extend(never("profile with a lower KG", &TURNED, &self.turned));
         missing.iter().for_each(|line| println!("NOT AS THE PAPER ALLOWS: {line}"));
         missing.is_empty()
     }

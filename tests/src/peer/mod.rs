@@ -10,6 +10,7 @@ mod history;
 pub mod hopper;
 pub mod inclining;
 mod pen;
+pub mod profile;
 pub mod ranges;
 mod reader;
 pub mod rows;
@@ -22,6 +23,8 @@ mod trial_figures;
 #[cfg(test)]
 mod trial_light_ships;
 #[cfg(test)]
+mod trial_profiles;
+#[cfg(test)]
 mod trial_steps;
 #[cfg(test)]
 mod trial_surfaces;
@@ -31,6 +34,7 @@ pub use display::display;
 pub use history::History;
 pub use hopper::hopper_surface;
 pub use inclining::light_ship;
+pub use profile::supply_profile;
 pub use reader::read;
 pub use rows::rows;
 pub use sheet::report;
@@ -74,6 +78,7 @@ mod tables {
     pub const OFF: usize = 1;
     pub const ON: usize = 2;
     pub const GMS: usize = 3;
+    pub const KN: usize = 0;
 }
 
 /// Refuses with this number at this place.

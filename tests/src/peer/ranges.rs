@@ -64,6 +64,10 @@ pub const TEST: [Range; 4] = [DISPLACEMENT, KM, range(0, 10_240_000_000), range(
 /// Weight, distance, deflection.
 pub const SHIFT: [Range; 3] = [range(1, 20_000), range(1, 16_000), range(1, 2_000)];
 
+/// Of a supply vessel: KN at each angle, and then KM and KG.
+pub const KN: Range = range(0, 20_000);
+pub const KM_AND_KG: [Range; 2] = [KM, range(0, 100_000)];
+
 pub const MOST_ITEMS: usize = 32;
 pub const MOST_TANKS: usize = 16;
 pub const MOST_INTERVALS: usize = PARTICULARS[INTERVALS].greatest as usize;
@@ -75,6 +79,8 @@ pub const MOST_WIDTHS: usize = 11;
 /// Shifts of an inclining test.
 pub const FEWEST_SHIFTS: usize = 2;
 pub const MOST_SHIFTS: usize = 12;
+/// Angles of a supply vessel's profile, from 0 to 60 degrees.
+pub const ANGLES: usize = 13;
 
 /// Bytes that a file may have.
 pub const LONGEST_FILE: usize = 32_768;
