@@ -1,17 +1,16 @@
 -- Supply vessels: the request's sentences, from the theorems of crate levers.
 --     supply-vessels        all of `SupplyVessels`
 -- Assumes nothing.
-use mathlib.Core.Path.{_≡_, refl, sym, ap, ap₂, subst, _∙_}
+use mathlib.Core.Path.{_≡_, refl, sym, ap, _∙_}
 use mathlib.Core.List.{List}
-use Prim.Native.Nat.{ℕ, _+_, _-_, _*_, _/_, _≤_, _<_}
+use Prim.Native.Nat.{ℕ, _+_, _-_, _*_, _/_, _<_}
 use native.Mathlib.Omega.{arith}
 use lib.IntN.{ℤ, pos, _-ℤ_, _*ℤ_}
 use lib.ListN.{length, getD}
-use lib.Signed.{_≤ℤ_, _<ℤ_}
 use Rattle.arithmetic.specs.Rounding.{roundedUp}
 use Rattle.simpson.specs.Curve.{curveℤ}
 use Rattle.simpson.proofs.Curves.{curveℤ-same}
-use Rattle.levers.specs.Levers.{lever, GZ, atEach, peak, Q, held, t}
+use Rattle.levers.specs.Levers.{lever, GZ, peak, Q, t}
 use Rattle.levers.specs.Promise.{MakesProfile}
 use Rattle.levers.specs.Sines.{sine, degrees}
 use Rattle.levers.specs.declared.Answer.{Answer}
@@ -26,7 +25,7 @@ use Rattle.levers.proofs.Order.{size-refused, kn-refused, km-refused, kg-refuse
 use Rattle.levers.proofs.Peak.{peak-within, peak-first, held-below, held-beyond, held-itself}
 use Rattle.levers.proofs.Sines as Sines
 use Rattle.levers.proofs.Tabled.{levers-length, lever-at, product-at}
-use Rattle.demands.specs.SupplyVessels.{ProfileInOrder, FirstGreatest, IsT, Asks, Near, SinesRight, OneLower, SupplyVessels}
+use Rattle.demands.specs.SupplyVessels.{ProfileInOrder, FirstGreatest, IsT, Asks, Near, SinesRight, SupplyVessels}
 
 in-order : {kn : List ℕ} {km kg : ℕ} {gz after : List ℤ} {answer : Answer} (made : MakesProfile kn km kg gz after answer) → ProfileInOrder made
 in-order made = record {

@@ -3,14 +3,11 @@
 --     refused-left            after a refusal the levers are what they were
 -- Assumes nothing.
 use mathlib.Core.Path.{_≡_, refl, sym, ap, _∙_}
-use mathlib.Core.Bool.{not}
 use mathlib.Core.List.{List}
-use Prim.Native.Nat.{ℕ, _≤_}
+use Prim.Native.Nat.{ℕ}
 use borrow.Author.Tests.{not-false, eqb-true, ltb-false}
-use lib.Dec.{eqb, ltb}
 use lib.IntN.{ℤ}
 use lib.ListN.{length}
-use Rattle.ranges.specs.Outcome.{answered}
 use Rattle.ranges.specs.Refusals.{outOfRange, wrongSize}
 use Rattle.ranges.specs.declared.Refusal.{Refusal}
 use Rattle.ranges.proofs.Outcomes.{answer-same, not-refused}

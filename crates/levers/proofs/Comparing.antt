@@ -6,7 +6,7 @@
 --     area-missed, area-met     the same of an area by the parts of a sum, and area-told
 -- Assumes nothing.
 use Prim.Native.Nat.{ℕ, _+_, _*_, _≤_, _<_}
-use mathlib.Core.Bool.{Bool, true, false}
+use mathlib.Core.Bool.{true}
 use mathlib.Core.Logic.{_↔_}
 use mathlib.Core.Path.{_≡_, sym, ap, subst, _∙_}
 use native.Mathlib.Omega.{arith}
@@ -14,13 +14,12 @@ use borrow.Author.Tests.{leb-true, leb-false, le-leb, lt-leb}
 use lib.Dec.{T, leb}
 use lib.IntN.{ℤ, pos, _-ℤ_, _*ℤ_}
 use lib.Signed.{leZ, _≤ℤ_, leZ-yes}
-use Rattle.arithmetic.specs.Choice.{if_then_else_}
 use Rattle.arithmetic.specs.Signed.{nearest}
 use Rattle.arithmetic.proofs.Choice.{chosen}
 use Rattle.arithmetic.proofs.Crossing.{back, nearest-back}
 use Rattle.arithmetic.proofs.Differences.{whole-leZ, difference-times, difference-near}
 use Rattle.arithmetic.proofs.Tests.{by-test}
-use Rattle.levers.specs.Criterion.{atLeast, areaAtLeast}
+use Rattle.levers.specs.Criterion.{sumUnit, areaUnit, atLeast, areaAtLeast}
 use Rattle.levers.specs.Private.Parts.{value, Small}
 use Rattle.levers.specs.declared.Parts.{Parts}
 use Rattle.levers.specs.declared.Rule.{Rule}
@@ -63,14 +62,14 @@ reaches least v = (
     t-true t = by-test (leZ (pos least) v) (λ e. e) (λ e. absurd (subst T e t))
 
 module _ (least : ℕ) {v : ℤ} (a b : ℕ) (e : v ≡ pos a -ℤ pos b) where
-  sum-is : pos 5_000 *ℤ v ≡ pos (5_000 * a) -ℤ pos (5_000 * b)
-  sum-is = ap (λ v. pos 5_000 *ℤ v) e ∙ difference-times a b 5_000
+  sum-is : pos sumUnit *ℤ v ≡ pos (sumUnit * a) -ℤ pos (sumUnit * b)
+  sum-is = ap (λ v. pos sumUnit *ℤ v) e ∙ difference-times a b sumUnit
 
-  pub area-missed : 5_000 * a < 5_000 * b + 24 * 57_296 * least → Missed ≡ areaAtLeast least v
-  area-missed h = missed (24 * 57_296 * least) (5_000 * a) (5_000 * b) sum-is h
+  pub area-missed : sumUnit * a < sumUnit * b + areaUnit * least → Missed ≡ areaAtLeast least v
+  area-missed h = missed (areaUnit * least) (sumUnit * a) (sumUnit * b) sum-is h
 
-  pub area-met : 5_000 * b + 24 * 57_296 * least ≤ 5_000 * a → Met ≡ areaAtLeast least v
-  area-met h = met (24 * 57_296 * least) (5_000 * a) (5_000 * b) sum-is h
+  pub area-met : sumUnit * b + areaUnit * least ≤ sumUnit * a → Met ≡ areaAtLeast least v
+  area-met h = met (areaUnit * least) (sumUnit * a) (sumUnit * b) sum-is h
 
-  pub area-told : areaAtLeast least v ≡ Met → 5_000 * b + 24 * 57_296 * least ≤ 5_000 * a
-  area-told is = met-told (24 * 57_296 * least) (5_000 * a) (5_000 * b) sum-is is
+  pub area-told : areaAtLeast least v ≡ Met → sumUnit * b + areaUnit * least ≤ sumUnit * a
+  area-told is = met-told (areaUnit * least) (sumUnit * a) (sumUnit * b) sum-is is

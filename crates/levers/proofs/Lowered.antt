@@ -5,27 +5,26 @@
 -- The peak and the area to t may be missed: proofs/Figures has a table for each. Assumes nothing.
 use mathlib.Core.Path.{_≡_, refl, sym, ap, subst, _∙_}
 use mathlib.Core.List.{List}
-use Prim.Native.Nat.{ℕ, _+_, _*_, _≤_}
+use Prim.Native.Nat.{ℕ, _+_, _-_, _*_, _≤_}
 use native.Mathlib.Nat.{mul-le-mul-right}
 use native.Mathlib.Omega.{arith}
 use lib.IntN.{ℤ, pos, _-ℤ_}
-use lib.ListN.{length, getD}
+use lib.ListN.{getD}
 use lib.Signed.{_≤ℤ_}
-use Rattle.arithmetic.specs.Rounding.{roundedUp}
 use Rattle.arithmetic.proofs.Differences.{difference-le}
 use Rattle.arithmetic.proofs.Rounding.{up-of, up-mono}
 use Rattle.simpson.specs.Curve.{curve, curveℤ}
 use Rattle.simpson.proofs.Curves.{curve-mono, curveℤ-less}
-use Rattle.levers.specs.Criterion.{atLeast, areaAtLeast, GM}
+use Rattle.levers.specs.Criterion.{leastArea, leastGZ, leastGM, atLeast, areaAtLeast, GM}
 use Rattle.levers.specs.Levers.{products, lever, GZ, Q}
 use Rattle.levers.specs.Promise.{MakesProfile}
-use Rattle.levers.specs.Sines.{sine, million}
+use Rattle.levers.specs.Sines.{sine, million, numberOf}
 use Rattle.levers.specs.declared.Answer.{Answer}
 use Rattle.levers.specs.declared.Answer.the-variants.{Found}
 use Rattle.levers.specs.declared.Profile.{Profile}
 use Rattle.levers.specs.declared.Rule.the-variants.{Met}
 use Rattle.levers.specs.declared.Rules.{Rules}
-use Rattle.levers.proofs.Answered.{Told, found-told}
+use Rattle.levers.proofs.Answered.{found-told}
 use Rattle.levers.proofs.Comparing.{met, met-told, area-met, area-told}
 use Rattle.levers.proofs.Order.{else-found}
 use Rattle.levers.proofs.Tabled.{product-at}
@@ -46,8 +45,8 @@ module _ (kn : List ℕ) {kg kg′ : ℕ} (lower : kg′ ≤ kg) where
   unfolding lever
   lever-higher i = difference-le (getD kn i 0) (off i) (getD kn i 0) (off′ i) (omega (arith, product-lower i))
 
-  pub gm-still : (km : ℕ) → atLeast 150 (GM km kg) ≡ Met → atLeast 150 (GM km kg′) ≡ Met
-  gm-still km is = sym (met 150 km kg′ refl (omega (arith, met-told 150 km kg refl is)))
+  pub gm-still : (km : ℕ) → atLeast leastGM (GM km kg) ≡ Met → atLeast leastGM (GM km kg′) ≡ Met
+  gm-still km is = sym (met leastGM km kg′ refl (omega (arith, met-told leastGM km kg refl is)))
 
   pub gz-still : (least i : ℕ) → atLeast least (GZ kn kg i) ≡ Met → atLeast least (GZ kn kg′ i) ≡ Met
   unfolding lever
@@ -74,7 +73,7 @@ module _ (kn : List ℕ) {kg kg′ : ℕ} (lower : kg′ ≤ kg) where
 
   pub area-still : (least : ℕ) → areaAtLeast least (Q (GZ kn kg) 30 40) ≡ Met → areaAtLeast least (Q (GZ kn kg′) 30 40) ≡ Met
   unfolding Q
-  area-still least is = area-kept 6 2 least is
+  area-still least is = area-kept (numberOf 30) (numberOf (40 - 30)) least is
 
 module _ {kn : List ℕ} {km kg kg′ : ℕ} (lower : kg′ ≤ kg) {gz gz′ after after′ : List ℤ} {answer : Answer} {p : Profile}
     (found : MakesProfile kn km kg gz after (Found p)) (made : MakesProfile kn km kg′ gz′ after′ answer) where
@@ -93,6 +92,6 @@ module _ {kn : List ℕ} {km kg kg′ : ℕ} (lower : kg′ ≤ kg) {gz gz′ af
         p′,
         answered .1,
         λ met. ap (λ (r : Rules). r .gm) is ∙ gm-still kn lower km (sym (ap (λ (r : Rules). r .gm) was) ∙ met),
-        λ met. ap (λ (r : Rules). r .«area_from_30_to_40») is ∙ area-still kn lower 30 (sym (ap (λ (r : Rules). r .«area_from_30_to_40») was) ∙ met),
-        λ met. ap (λ (r : Rules). r .«gz_at_30») is ∙ gz-still kn lower 200 6 (sym (ap (λ (r : Rules). r .«gz_at_30») was) ∙ met),
+        λ met. ap (λ (r : Rules). r .«area_from_30_to_40») is ∙ area-still kn lower leastArea (sym (ap (λ (r : Rules). r .«area_from_30_to_40») was) ∙ met),
+        λ met. ap (λ (r : Rules). r .«gz_at_30») is ∙ gz-still kn lower leastGZ (numberOf 30) (sym (ap (λ (r : Rules). r .«gz_at_30») was) ∙ met),
       )

@@ -5,22 +5,21 @@
 --     made                            the profile, from equations of its parts
 --     declined, answered-so           what is promised: of a refusal, and of an answer
 -- Assumes nothing.
-use Prim.Native.Nat.{ℕ, _+_, _-_, _/_, _≤_}
-use mathlib.Core.Path.{_≡_, refl, sym, ap, ap₂, _∙_}
+use Prim.Native.Nat.{ℕ, _+_, _-_, _≤_}
+use mathlib.Core.Path.{_≡_, ap, ap₂, _∙_}
 use mathlib.Core.List.{List}
 use native.Mathlib.Omega.{arith}
 use borrow.Author.Tests.{ltb-false}
 use lib.IntN.{ℤ, pos, _-ℤ_}
-use Rattle.arithmetic.specs.Choice.{if_then_else_}
 use Rattle.arithmetic.proofs.Choice.{if-either}
-use Rattle.ranges.specs.Outcome.{Outcome, answered, refused, valueAfter}
+use Rattle.ranges.specs.Outcome.{answered, refused}
 use Rattle.ranges.specs.declared.Refusal.{Refusal}
 use Rattle.simpson.specs.Curve.{curveℤ}
-use Rattle.levers.specs.Criterion.{atLeast, areaAtLeast, GM, profile}
+use Rattle.levers.specs.Criterion.{leastPeak, areaAndT, leastArea, leastGZ, leastGM, atLeast, areaAtLeast, GM, profile}
 use Rattle.levers.specs.Levers.{products, lever, GZ, atEach, peak, Q, held, t}
-use Rattle.levers.specs.Private.Parts.{Between, Small}
+use Rattle.levers.specs.Private.Parts.{Between}
 use Rattle.levers.specs.Promise.{profileOf, leversAfter, MakesProfile}
-use Rattle.levers.specs.Sines.{degrees}
+use Rattle.levers.specs.Sines.{degrees, numberOf}
 use Rattle.levers.specs.declared.Answer.{Answer}
 use Rattle.levers.specs.declared.Answer.the-variants.{Found, Refused}
 use Rattle.levers.specs.declared.Profile.{Profile}
@@ -43,16 +42,16 @@ module _ (gz : ℕ → ℤ) (number last : ℕ) (e : number ≡ peak gz) (f : de
   pub to-t : {v : ℤ} → v ≡ curveℤ (last - 0) (λ i. gz (0 + i)) → v ≡ Q gz 0 (t gz)
   unfolding Q
   to-t is =
-      let n : last - 0 ≡ (t gz - 0) / 5 = omega (arith, t-is) in
+      let n : last - 0 ≡ numberOf (t gz - 0) = omega (arith, t-is) in
       is ∙ ap (λ n. curveℤ n (λ i. gz (0 + i))) n
 
-  pub area-to-t : {v : ℤ} {r : Rule} → r ≡ areaAtLeast (85 - degrees last) v → v ≡ curveℤ (last - 0) (λ i. gz (0 + i)) → r ≡ areaAtLeast (85 - t gz) (Q gz 0 (t gz))
-  area-to-t r is = r ∙ ap₂ (λ t v. areaAtLeast (85 - t) v) t-is (to-t is)
+  pub area-to-t : {v : ℤ} {r : Rule} → r ≡ areaAtLeast (areaAndT - degrees last) v → v ≡ curveℤ (last - 0) (λ i. gz (0 + i)) → r ≡ areaAtLeast (areaAndT - t gz) (Q gz 0 (t gz))
+  area-to-t r is = r ∙ ap₂ (λ t v. areaAtLeast (areaAndT - t) v) t-is (to-t is)
 
-  pub stands : {r : Rule} → r ≡ atLeast 15 (pos (degrees number) -ℤ pos 0) → r ≡ atLeast 15 (pos (degrees (peak gz)))
-  stands r = r ∙ ap (λ n. atLeast 15 (pos n)) (omega (arith, e))
+  pub stands : {r : Rule} → r ≡ atLeast leastPeak (pos (degrees number) -ℤ pos 0) → r ≡ atLeast leastPeak (pos (degrees (peak gz)))
+  stands r = r ∙ ap (λ n. atLeast leastPeak (pos n)) (omega (arith, e))
 
-pub from-30 : (gz : ℕ → ℤ) {v : ℤ} → v ≡ curveℤ (8 - 6) (λ i. gz (6 + i)) → v ≡ Q gz 30 40
+pub from-30 : (gz : ℕ → ℤ) {v : ℤ} → v ≡ curveℤ (numberOf 40 - numberOf 30) (λ i. gz (numberOf 30 + i)) → v ≡ Q gz 30 40
 unfolding Q
 from-30 gz is = is
 
@@ -60,14 +59,14 @@ module _ (gz : ℕ → ℤ) (height : ℤ) {gm lever30 toT from30 : ℤ} {angle 
   pub made :
       angle ≡ degrees (peak gz)
       → gm ≡ height
-      → lever30 ≡ gz 6
+      → lever30 ≡ gz (numberOf 30)
       → toT ≡ Q gz 0 (t gz)
       → from30 ≡ Q gz 30 40
-      → a ≡ atLeast 15 (pos (degrees (peak gz)))
-      → b ≡ areaAtLeast (85 - t gz) (Q gz 0 (t gz))
-      → c ≡ areaAtLeast 30 (Q gz 30 40)
-      → d ≡ atLeast 200 (gz 6)
-      → e ≡ atLeast 150 height
+      → a ≡ atLeast leastPeak (pos (degrees (peak gz)))
+      → b ≡ areaAtLeast (areaAndT - t gz) (Q gz 0 (t gz))
+      → c ≡ areaAtLeast leastArea (Q gz 30 40)
+      → d ≡ atLeast leastGZ (gz (numberOf 30))
+      → e ≡ atLeast leastGM height
       → record { peak = angle; gm = gm; «gz_at_30» = lever30; «sum_to_t» = toT; «sum_from_30_to_40» = from30; rules = record { peak = a; «area_to_t» = b; «area_from_30_to_40» = c; «gz_at_30» = d; gm = e } } ≡ profile gz height
   made p g l s u v w x y z = λ i. record {
     peak = p i;

@@ -3,26 +3,22 @@
 --     sum-most                                   how large it is
 --     lever-sum                                  the sum of levers by those of their tables
 -- Assumes nothing.
-use Prim.Native.Nat.{ℕ, _+_, _-_, _*_, _^_, _≤_, _<_}
-use mathlib.Core.Path.{_≡_, refl, sym, ap, ap₂, subst, _∙_}
-use mathlib.Core.List.{List, [], _∷_}
+use Prim.Native.Nat.{ℕ, _+_, _-_, _^_, _≤_}
+use mathlib.Core.Path.{_≡_, sym, ap, ap₂, _∙_}
+use mathlib.Core.List.{List}
 use native.Mathlib.Omega.{arith}
 use borrow.Author.Tests.{lt-ltb, le-ltb}
-use lib.Dec.{ltb}
-use lib.IntN.{ℤ, pos, _-ℤ_}
+use lib.IntN.{pos, _-ℤ_}
 use lib.ListN.{length, take, drop, getD, length-drop}
 use lib.Seq.{length-take-le, getD-take, getD-drop}
-use Rattle.arithmetic.specs.Choice.{if_then_else_}
 use Rattle.arithmetic.proofs.Choice.{chosen}
 use Rattle.ranges.specs.Fields.{most, metacentre}
 use Rattle.simpson.specs.Curve.{curve, curveℤ, curveSumOf}
-use Rattle.simpson.specs.declared.CurveSum.{CurveSum}
 use Rattle.simpson.specs.declared.CurveSum.the-variants.{Sum, TooShort, TooLarge}
 use Rattle.simpson.proofs.Curves.{curve-same, curveℤ-less}
 use Rattle.simpson.proofs.Moments.{curve-le}
 use Rattle.levers.specs.Levers.{lever}
 use Rattle.levers.specs.Private.Parts.{value, Small, sumOver, mostSum, TableInRange, Tables, Between}
-use Rattle.levers.specs.Sines.{angleCount}
 use Rattle.levers.specs.declared.Parts.{Parts}
 
 module _ {table : List ℕ} {from to : ℕ} (so : TableInRange table) (b : Between from to) where

@@ -3,15 +3,13 @@
 --     Inside, inside, tables-in-range      what it tells that none is
 --     refused-size, refused-range, found   what the call comes to, test by test
 -- Assumes nothing.
-use mathlib.Core.Path.{_≡_, refl, sym, ap, _∙_}
+use mathlib.Core.Path.{_≡_, sym, _∙_}
 use mathlib.Core.List.{List, [], _∷_, map}
 use Prim.Native.Nat.{ℕ, _+_, _≤_, _<_}
 use native.Mathlib.Omega.{arith}
 use borrow.Author.Tests.{lt-ltb, le-ltb, eq-eqb, ne-eqb}
-use lib.Dec.{eqb, ltb}
-use lib.IntN.{ℤ, pos}
+use lib.IntN.{pos}
 use lib.ListN.{length, getD, length-map}
-use Rattle.arithmetic.specs.Choice.{if_then_else_}
 use Rattle.arithmetic.proofs.Choice.{chosen}
 use Rattle.ranges.specs.Fields.{most, metacentre, crossLever, crossCurve, heights}
 use Rattle.ranges.specs.Outcome.{answered, refused}

@@ -10,12 +10,35 @@ use Rattle.levers.specs.declared.Rule.{Rule}
 use Rattle.levers.specs.declared.Rule.the-variants.{Met, Missed}
 use Rattle.levers.specs.declared.Rules.{Rules}
 
+-- what the rules ask for: the peak "at 15 degrees or more"; an area of "85 − t" mm·rad to t, and of 30 from 30 to 40 degrees; "GZ at 30 .. at least 200, GM at least 150"
+abbrev pub leastPeak : ℕ
+leastPeak = 15
+
+abbrev pub areaAndT : ℕ
+areaAndT = 85
+
+abbrev pub leastArea : ℕ
+leastArea = 30
+
+abbrev pub leastGZ : ℕ
+leastGZ = 200
+
+abbrev pub leastGM : ℕ
+leastGM = 150
+
+-- "5000·Q ≥ 24·57,296" for each mm·rad: Q is in 24ths of 5 degrees, and 57,296 thousandths of a degree are a radian
+abbrev pub sumUnit : ℕ
+sumUnit = 5_000
+
+abbrev pub areaUnit : ℕ
+areaUnit = 24 * 57_296
+
 unfoldable pub atLeast : ℕ → ℤ → Rule
 atLeast least v = if leZ (pos least) v then Met else Missed
 
--- an area of so many mm·rad: "5000·Q ≥ 24·57,296" times it. Q is in 24ths of 5 degrees, and 57,296 thousandths of a degree are a radian.
+-- an area of so many mm·rad, by the multiplied sum
 abbrev pub areaAtLeast : ℕ → ℤ → Rule
-areaAtLeast least q = atLeast (24 * 57_296 * least) (pos 5_000 *ℤ q)
+areaAtLeast least q = atLeast (areaUnit * least) (pos sumUnit *ℤ q)
 
 -- "GM is KM less KG": of either sign
 abbrev pub GM : ℕ → ℕ → ℤ
@@ -25,14 +48,14 @@ module _ (gz : ℕ → ℤ) (gm : ℤ) where
   abbrev pub rules : Rules
   rules = record {
     -- "it must stand at 15 degrees or more"
-    peak = atLeast 15 (pos (degrees (peak gz)));
+    peak = atLeast leastPeak (pos (degrees (peak gz)));
     -- "the multiplied sum Q of GZ from 0 to t must meet 5000·Q ≥ 24·57,296·(85 − t)"
-    «area_to_t» = areaAtLeast (85 - t gz) (Q gz 0 (t gz));
+    «area_to_t» = areaAtLeast (areaAndT - t gz) (Q gz 0 (t gz));
     -- "from 30 to 40 degrees 5000·Q ≥ 24·57,296·30"
-    «area_from_30_to_40» = areaAtLeast 30 (Q gz 30 40);
+    «area_from_30_to_40» = areaAtLeast leastArea (Q gz 30 40);
     -- "GZ at 30 is at least 200, GM at least 150"
-    «gz_at_30» = atLeast 200 (gz (numberOf 30));
-    gm = atLeast 150 gm;
+    «gz_at_30» = atLeast leastGZ (gz (numberOf 30));
+    gm = atLeast leastGM gm;
   }
 
   abbrev pub profile : Profile

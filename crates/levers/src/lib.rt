@@ -1,7 +1,6 @@
 // The righting levers of a supply vessel, and the criterion that they are held against.
 ghost use mathlib.Core.Path.{_≡_};
 ghost use Prim.Native.Nat.{_+_, _-_, _≤_, _<_};
-ghost use lib.ListN.{length};
 ghost use Rattle.ranges.specs.Fields.{most, metacentre};
 ghost use Rattle.simpson.specs.Curve.{curveℤ};
 ghost use Rattle.levers.specs.Sines.{angleCount, degrees};
@@ -92,10 +91,11 @@ const LEAST_AREA: u64 = 30;
 
 const AREA_AND_T: u64 = 85;
 
-// An area of one mm·rad is so many times SUM_UNIT multiplied sums: 24ths of an interval, thousandths of a degree to the radian.
-const AREA_UNIT: u64 = 24 * 57_296;
-
+// A multiplied sum times SUM_UNIT has AREA_UNIT for each mm·rad of its area: it is in 24ths of 5 degrees, and 57,296 thousandths of
+// a degree are a radian.
 const SUM_UNIT: u64 = 5_000;
+
+const AREA_UNIT: u64 = 24 * 57_296;
 
 // How many numbers follow KN: KM and KG.
 const AFTER_KN: usize = 2;

@@ -1,5 +1,4 @@
 -- The three cases of the definition, by number for degrees. Assumes nothing.
-use mathlib.Core.Path.{sym}
 use native.Mathlib.Omega.{arith}
 use Rattle.levers.proofs.Peak.{held-below, held-beyond, held-itself}
 use Rattle.levers.proofs.held_at.Statement.{statement}

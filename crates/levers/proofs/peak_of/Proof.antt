@@ -1,6 +1,6 @@
 -- So far it is the peak of the angles passed. Assumes nothing.
 use Prim.Native.Nat.{_-_, _≤_, _<_}
-use mathlib.Core.Path.{_≡_, refl, sym, ap, _∙_}
+use mathlib.Core.Path.{_≡_, ap, _∙_}
 use native.Mathlib.Omega.{arith}
 use Rattle.levers.specs.Levers.{lever, peakUpTo}
 use Rattle.levers.specs.Sines.{angleCount}

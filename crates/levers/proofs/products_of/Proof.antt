@@ -1,16 +1,13 @@
 -- The front of the table is filled so far; the table of sines is the definition's. Assumes nothing.
-use Prim.Native.Nat.{_-_, _*_, _≤_}
-use mathlib.Core.Path.{_≡_, refl, sym, ap, _∙_}
-use mathlib.Core.List.{List, _∷_, []}
-use native.Mathlib.Nat.{mul-le-mul}
+use Prim.Native.Nat.{_-_, _≤_}
+use mathlib.Core.Path.{sym, _∙_}
 use native.Mathlib.Omega.{arith}
 use borrow.Author.Needs.{needs}
-use lib.ListN.{getD, replicate}
+use lib.ListN.{replicate}
 use Rattle.arithmetic.proofs.Parts.{Stored, stored-none, stored-more, stored-full}
 use Rattle.arithmetic.proofs.Products.{product-fits}
 use Rattle.levers.specs.Levers.{products}
 use Rattle.levers.specs.Sines.{angleCount}
-use Rattle.levers.specs.Sines as Sines
 use Rattle.levers.proofs.Tabled.{sine-le, products-length, product-at}
 use Rattle.levers.proofs.products_of.Statement.{statement}
 use Rattle.levers.proofs.products_of.Tie as tie

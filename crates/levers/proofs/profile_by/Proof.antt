@@ -1,10 +1,10 @@
 -- Each number of the profile and each rule, by its own function. Assumes nothing.
 use Prim.Native.Nat.{_≤_}
-use mathlib.Core.Path.{_≡_, ap, _∙_}
+use mathlib.Core.Path.{ap, _∙_}
 use native.Mathlib.Omega.{arith}
 use borrow.Author.Needs.{needs}
 use Rattle.arithmetic.proofs.Crossing.{back-is}
-use Rattle.levers.specs.Criterion.{atLeast, areaAtLeast, GM}
+use Rattle.levers.specs.Criterion.{leastArea, leastGZ, atLeast, areaAtLeast, GM}
 use Rattle.levers.specs.Levers.{lever}
 use Rattle.levers.specs.Sines.{degrees}
 use Rattle.levers.proofs.Making.{held-within, to-t, area-to-t, stands, from-30, made}
@@ -96,8 +96,8 @@ returns c =
     (back-is (record { sfits = values .value-of4 .ok }) ∙ values .value-of4 .ensures ∙ beyond)
     (stands gz _ _ peak-is (held .held-at .ensures) (rule .at-least .ensures))
     (area-to-t gz _ _ peak-is (held .held-at .ensures) (c .before .before .before .area-at-least .ensures) (to .lever-sum .ensures .0))
-    (c .before .before .area-at-least2 .ensures ∙ ap (areaAtLeast 30) beyond)
-    (c .before .at-least2 .ensures ∙ ap (atLeast 200) (at .lever-at .ensures .0))
+    (c .before .before .area-at-least2 .ensures ∙ ap (areaAtLeast leastArea) beyond)
+    (c .before .at-least2 .ensures ∙ ap (atLeast leastGZ) (at .lever-at .ensures .0))
     (c .at-least3 .ensures)
 
 pub profile-by-spec : {M : Type 1} → statement M

@@ -45,6 +45,6 @@ pub record Small (p : Parts) : Type 0 where
   pub whole-most : p .whole ≤ mostSum
   pub off-most : p .off ≤ mostSum
 
--- and what a rule asks for
+-- no rule asks for more, of mm, mm·rad or degrees
 abbrev pub leastMost : ℕ
-leastMost = 200
+leastMost = 1_000
