@@ -34,6 +34,11 @@ pub fn damage(random: &mut Random, inclining: &mut Inclining, room: &mut usize) 
                 inclining.test[i] = edge(random, TEST[i], inclining.test[i] as i64) as u64;
             }
         }
+        6 => {
+            if let (Some(last), Some(range)) = (inclining.on.last_mut(), ITEM.last()) {
+                *last = edge(random, *range, *last);
+            }
+        }
         _ => {
             let numbers = TEST.len() + inclining.shifts.len() + inclining.off.len() + inclining.on.len();
             let place = random.index(numbers);
