@@ -3,6 +3,7 @@
 --     difference-leZ, difference-ltZ         a − b against c − d, as tests: by a + d against c + b
 --     whole-leZ                              and a whole number against it
 --     difference-le, difference-lt           and as facts
+--     lt-le, le-lt                           of any numbers of either sign: below is not above, and not above what is below is below
 --     difference-times                       x · (a − b)
 --     difference-more                        (a − b) + k
 --     difference-size                        how far a − b is from 0, at most
@@ -14,9 +15,9 @@ use Prim.Native.Nat.{ℕ, zero, suc, _+_, _-_, _*_, _^_, _≤_, _<_}
 use native.Mathlib.Nat.{mul-add}
 use native.Mathlib.Omega.{arith}
 use borrow.Author.Tests.{ltb-true, ltb-false, leb-true, leb-false, lt-ltb, le-ltb, le-leb, lt-leb}
-use lib.Dec.{T, leb, ltb}
+use lib.Dec.{T, leb, ltb, le→leb, ltb→lt}
 use lib.IntN.{ℤ, pos, negsuc, negℤ, natAbs, _+ℤ_, _-ℤ_, _*ℤ_}
-use lib.Signed.{leZ, ltZ, _≤ℤ_, _<ℤ_}
+use lib.Signed.{leZ, ltZ, _≤ℤ_, _<ℤ_, leZ-yes, ltZ-yes, ltZ-no, <ℤ-≤ℤ-trans, clashℤ}
 use Rattle.arithmetic.specs.Signed.{nearest}
 use Rattle.arithmetic.proofs.Crossing.{mag-le, nearest-of-small}
 use Rattle.arithmetic.proofs.Tests.{by-test, same-test}
@@ -84,6 +85,20 @@ module _ (a b c d : ℕ) where
 
   pub difference-lt : a + d < c + b → (pos a -ℤ pos b) <ℤ (pos c -ℤ pos d)
   difference-lt h = record { lt = subst T (sym (difference-ltZ ∙ lt-ltb (a + d) (c + b) h)) tt }
+
+lt-leZ : (y z : ℤ) → T (ltZ y z) → T (leZ y z)
+lt-leZ (pos m) (pos n) t = le→leb m n (omega (arith, ltb→lt m n t))
+lt-leZ (pos m) (negsuc n) t = absurd t
+lt-leZ (negsuc m) (pos n) t = tt
+lt-leZ (negsuc m) (negsuc n) t = le→leb n m (omega (arith, ltb→lt n m t))
+
+pub lt-le : {y z : ℤ} → y <ℤ z → y ≤ℤ z
+lt-le {y} {z} h = leZ-yes (lt-leZ y z (h .lt))
+
+pub le-lt : {x y z : ℤ} → x ≤ℤ y → y <ℤ z → x <ℤ z
+le-lt {x} {z} h k =
+    by-test (ltZ x z) (λ t. ltZ-yes (subst T (sym t) tt))
+    (λ t. let not-less : z ≤ℤ x = ltZ-no (subst (λ t. T (not t)) (sym t) tt) in clashℤ (<ℤ-≤ℤ-trans k not-less) h)
 
 -- ---- multiples and sums
 taken : {a b : ℕ} (k : ℕ) → b ≡ a + k → Less a b (negℤ (pos k))

@@ -11,13 +11,13 @@ use mathlib.Core.Path.{_≡_, refl, sym, ap, subst, _∙_}
 use mathlib.Core.List.{List}
 use native.Mathlib.Omega.{arith}
 use borrow.Author.Tests.{lt-ltb, le-ltb}
-use lib.Dec.{T, ltb, le→leb, ltb→lt}
-use lib.IntN.{ℤ, pos, negsuc}
+use lib.Dec.{T, ltb}
+use lib.IntN.{ℤ}
 use lib.ListN.{getD}
-use lib.Signed.{leZ, ltZ, _≤ℤ_, _<ℤ_, leZ-yes, ltZ-yes, ltZ-no, ≤ℤ-refl, <ℤ-≤ℤ-trans, clashℤ}
+use lib.Signed.{ltZ, _≤ℤ_, _<ℤ_, ltZ-yes, ltZ-no, ≤ℤ-refl}
 use Rattle.arithmetic.proofs.Choice.{if-either, chosen}
-use Rattle.arithmetic.proofs.Differences.{difference-ltZ}
-use Rattle.arithmetic.proofs.Tests.{by-test, same-or-other}
+use Rattle.arithmetic.proofs.Differences.{difference-ltZ, lt-le, le-lt}
+use Rattle.arithmetic.proofs.Tests.{same-or-other}
 use Rattle.levers.specs.Levers.{lever, peakUpTo, held}
 use Rattle.levers.specs.Private.Parts.{greaterOf}
 
@@ -37,21 +37,6 @@ module _ (kn off : List ℕ) (first i : ℕ) where
 
   pub first-greater : more ≤ less → first ≡ greaterOf (lever kn off) first i
   first-greater h = sym (simp (test-is, le-ltb less more h, chosen))
-
--- ---- order
-lt-leZ : (a b : ℤ) → T (ltZ a b) → T (leZ a b)
-lt-leZ (pos m) (pos n) t = le→leb m n (omega (arith, ltb→lt m n t))
-lt-leZ (pos m) (negsuc n) t = absurd t
-lt-leZ (negsuc m) (pos n) t = tt
-lt-leZ (negsuc m) (negsuc n) t = le→leb n m (omega (arith, ltb→lt n m t))
-
-below : {a b : ℤ} → a <ℤ b → a ≤ℤ b
-below {a} {b} h = leZ-yes (lt-leZ a b (h .lt))
-
-le-lt : {a b c : ℤ} → a ≤ℤ b → b <ℤ c → a <ℤ c
-le-lt {a} {b} {c} h k =
-    by-test (ltZ a c) (λ t. ltZ-yes (subst T (sym t) tt))
-    (λ t. let not-less : c ≤ℤ a = ltZ-no (subst (λ t. T (not t)) (sym t) tt) in clashℤ (<ℤ-≤ℤ-trans k not-less) h)
 
 -- ---- the peak
 module _ (gz : ℕ → ℤ) where
@@ -84,7 +69,7 @@ module _ (gz : ℕ → ℤ) where
   module _ (n p : ℕ) (so : First n p) where
     moved : gz p <ℤ gz (suc n) → First (suc n) (suc n)
     moved less = record {
-      greatest = λ j h. same-or-other j (suc n) (λ e. subst (λ j. gz j ≤ℤ gz (suc n)) (sym e) (≤ℤ-refl (gz (suc n)))) (λ other. below (le-lt (so .greatest j (omega arith)) less));
+      greatest = λ j h. same-or-other j (suc n) (λ e. subst (λ j. gz j ≤ℤ gz (suc n)) (sym e) (≤ℤ-refl (gz (suc n)))) (λ other. lt-le (le-lt (so .greatest j (omega arith)) less));
       before = λ j h. le-lt (so .greatest j (omega arith)) less;
     }
 
