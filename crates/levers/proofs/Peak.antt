@@ -1,9 +1,9 @@
--- The peak: "the first greatest GZ".
---     later-greater, first-greater  of two levers the greater, by the sums of their parts
---     peak-none, peak-more          of the first angle alone, and with one angle more
---     held-below, held-beyond, held-itself     t
---     peak-within                   it is one of the angles
---     First, peak-first             no GZ is greater, and every one before it is less
+-- The peak, "the first greatest GZ", and t.
+--     later-greater, first-greater             of two levers the greater, by the sums of their parts
+--     peak-none, peak-more                     of the first angle alone, and with one angle more
+--     peak-within                              it is one of the angles
+--     First, peak-first                        no GZ is greater, and every one before it is less
+--     held-below, held-beyond, held-itself     t, by where the peak stands
 -- Assumes nothing.
 use Prim.Native.Nat.{ℕ, zero, suc, _+_, _-_, _≤_, _<_}
 use mathlib.Core.Bool.{not}

@@ -38,10 +38,10 @@ complement i = near million (sine i ^ 2 + sine (18 - i) ^ 2) (million ^ 2)
 triple : ℕ → Bool
 triple i = near (million ^ 2) (4 * sine i ^ 3 + million ^ 2 * sine (3 * i)) (3 * million ^ 2 * sine i)
 
-sinesRight : Bool
+pub sinesRight : Bool
 sinesRight = rising sines && (each double 3 4 && (each complement 6 4 && each triple 0 5))
 
-sines-right : sinesRight ≡ true
+pub sines-right : sinesRight ≡ true
 unfolding sinesRight rising near each double complement triple
 sines-right = refl
 

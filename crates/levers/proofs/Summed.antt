@@ -1,7 +1,7 @@
 -- Multiplied sums over parts of the tables.
+--     sum-most                                   how large one is
 --     sum-made, sum-not-short, sum-not-large     what the sum over a part of a table comes to
---     sum-most                                   how large it is
---     lever-sum                                  the sum of levers by those of their tables
+--     lever-sum, sums-small                      the sum of levers by those of their tables, which are small
 -- Assumes nothing.
 use Prim.Native.Nat.{ℕ, _+_, _-_, _^_, _≤_}
 use mathlib.Core.Path.{_≡_, sym, ap, ap₂, _∙_}

@@ -80,7 +80,7 @@ module _ {kn off : List ℕ} (so : Tables kn off) (i : ℕ) where
   unfolding lever
   lever-back e = value-back lever-small e
 
--- each of the first n of a list of numbers is its own place
+-- each number of a list is its own place, counted from one on
 inPlace : ℕ → List ℕ → Bool
 inPlace from [] = true
 inPlace from (n ∷ rest) = eqb n from && inPlace (suc from) rest

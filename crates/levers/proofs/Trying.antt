@@ -1,5 +1,5 @@
 -- The tests, in the paper's order.
---     kn-outside, height-outside           where the first number out of range stands
+--     kn-outside, height-outside           where the first number out of range stands; heights-le: of KM and KG there are two
 --     Inside, inside, tables-in-range      what it tells that none is
 --     refused-size, refused-range, found   what the call comes to, test by test
 -- Assumes nothing.
