@@ -50,6 +50,17 @@ plainestProfiles =
     ∷ (given (0 ∷ 1 ∷ 2 ∷ 300 ∷ 400 ∷ 500 ∷ 600 ∷ 700 ∷ 800 ∷ 900 ∷ 1_000 ∷ 1_100 ∷ 1_200 ∷ []) 151 1, is 60 (pos 150) (pos 599) (pos 36_728) (pos 33_552) (five Met Met Met Met Met))
     -- a peak at 15 degrees: three intervals by the second rule
     ∷ (given (0 ∷ 231 ∷ 272 ∷ 631 ∷ 606 ∷ 617 ∷ 616 ∷ 615 ∷ 491 ∷ 475 ∷ 477 ∷ 495 ∷ 388 ∷ []) 149 0, is 15 (pos 149) (pos 616) (pos 19_260) (pos 28_536) (five Met Met Met Met Missed))
+    -- the area to 15, 20, 25 and 30 degrees, and from 30 to 40, each the last sum that misses and the first that meets; GZ at 30 of 200 and of 199
+    ∷ (given (0 ∷ 200 ∷ 350 ∷ 489 ∷ replicate 9 0) 150 0, is 15 (pos 150) (pos 0) (pos 19_251) (pos 0) (five Met Missed Missed Missed Met))
+    ∷ (given (0 ∷ 200 ∷ 350 ∷ 490 ∷ replicate 9 0) 150 0, is 15 (pos 150) (pos 0) (pos 19_260) (pos 0) (five Met Met Missed Missed Met))
+    ∷ (given (0 ∷ 120 ∷ 200 ∷ 200 ∷ 554 ∷ replicate 8 0) 150 0, is 20 (pos 150) (pos 0) (pos 17_872) (pos 0) (five Met Missed Missed Missed Met))
+    ∷ (given (0 ∷ 120 ∷ 200 ∷ 200 ∷ 555 ∷ replicate 8 0) 150 0, is 20 (pos 150) (pos 0) (pos 17_880) (pos 0) (five Met Met Missed Missed Met))
+    ∷ (given (0 ∷ 91 ∷ 100 ∷ 150 ∷ 200 ∷ 271 ∷ replicate 7 0) 150 0, is 25 (pos 150) (pos 0) (pos 16_501) (pos 0) (five Met Missed Missed Missed Met))
+    ∷ (given (0 ∷ 93 ∷ 100 ∷ 150 ∷ 200 ∷ 264 ∷ replicate 7 0) 150 0, is 25 (pos 150) (pos 0) (pos 16_502) (pos 0) (five Met Met Missed Missed Met))
+    ∷ (given (0 ∷ 50 ∷ 80 ∷ 100 ∷ 130 ∷ 150 ∷ 270 ∷ replicate 6 0) 150 0, is 30 (pos 150) (pos 270) (pos 15_120) (pos 2_160) (five Met Missed Missed Met Met))
+    ∷ (given (0 ∷ 50 ∷ 80 ∷ 100 ∷ 130 ∷ 150 ∷ 271 ∷ replicate 6 0) 150 0, is 30 (pos 150) (pos 271) (pos 15_128) (pos 2_168) (five Met Met Missed Met Met))
+    ∷ (given (0 ∷ 0 ∷ 0 ∷ 0 ∷ 0 ∷ 0 ∷ 200 ∷ 158 ∷ 199 ∷ replicate 4 0) 150 0, is 30 (pos 150) (pos 200) (pos 1_600) (pos 8_248) (five Met Missed Missed Met Met))
+    ∷ (given (0 ∷ 0 ∷ 0 ∷ 0 ∷ 0 ∷ 0 ∷ 199 ∷ 158 ∷ 201 ∷ replicate 4 0) 150 0, is 40 (pos 150) (pos 199) (pos 1_592) (pos 8_256) (five Met Missed Met Missed Met))
     -- GM and levers below 0
     ∷ (given (replicate 13 0) 0 10, is 0 (negsuc 9) (negsuc 4) (negsuc 107) (negsuc 287) (five Missed Missed Missed Missed Missed))
     -- one number too few, one too many
