@@ -26,8 +26,8 @@ counts c = (c .as-many, c .enough, c .not-too-many)
 pub in-order : {port starboard : List ℕ} {h density : ℕ} {answer : Answer} (made : MakesSurface port starboard h density answer) → InOrder made
 in-order made = record {
   seven-at-0 = λ wrong. size-refused made (λ c. wrong (record { as-many = c .0; enough = c .1; not-too-many = c .2 }));
-  port-first = λ c i f. port-refused made (counts c) i (f .there) (f .wide) (f .none-before);
-  then-starboard = λ c p i f. starboard-refused made (counts c) p i (f .there) (f .wide) (f .none-before);
+  port-first = λ c i f. port-refused made (counts c) i (f .there) (f .above) (f .none-before);
+  then-starboard = λ c p i f. starboard-refused made (counts c) p i (f .there) (f .above) (f .none-before);
   then-interval = λ c p q. interval-refused made (counts c) p q;
   then-density = λ c p q h. density-refused made (counts c) p q h;
   else-found = λ c p q h. else-found made (counts c) p q h;

@@ -2,9 +2,9 @@
 use mathlib.Core.Path.{_≡_}
 use mathlib.Core.Bool.{true, false}
 use mathlib.Core.List.{List, map}
-use Prim.Native.Nat.{ℕ, _+_, _*_, _^_, _≤_, _<_}
+use Prim.Native.Nat.{ℕ, _+_, _*_, _^_, _≤_}
 use lib.IntN.{pos, natAbs, _*ℤ_}
-use lib.ListN.{length, getD, replicate}
+use lib.ListN.{length, replicate}
 use Rattle.arithmetic.specs.Rounding.{roundedUp}
 use Rattle.arithmetic.specs.Signed.{isNegative}
 use Rattle.hoppers.specs.Hopper.{MakesSurface}
@@ -16,6 +16,7 @@ use Rattle.loading.specs.Load.{Tank}
 use Rattle.loading.specs.Paper.{paperRules, slack, rectangle}
 use Rattle.loading.specs.Rules.{surfaceOf}
 use Rattle.loading.specs.declared.Reading.{Reading}
+use Rattle.demands.specs.Limits.{NoneAbove, FirstAbove}
 
 -- unequal tables or a wrong count are refused first: as many widths to port as to starboard, at 2 to 10 intervals
 pub record Counted (port starboard : List ℕ) : Type 0 where
@@ -23,26 +24,17 @@ pub record Counted (port starboard : List ℕ) : Type 0 where
   pub enough : 3 ≤ length port
   pub not-too-many : length port ≤ 11
 
--- no width above 1,500 mm; and the first that is
-abbrev pub NoneWide : List ℕ → Type 0
-NoneWide widths = (i : ℕ) → i < length widths → getD widths i 0 ≤ 1_500
-
-pub record FirstWide (widths : List ℕ) (i : ℕ) : Type 0 where
-  pub there : i < length widths
-  pub wide : 1_500 < getD widths i 0
-  pub none-before : (j : ℕ) → j < i → getD widths j 0 ≤ 1_500
-
 abbrev pub refusedWith : ℕ → ℕ → Answer
 refusedWith number place = Refused (record { number = number; place = place })
 
 -- "Refusals: 7 at 0 for unequal tables or a wrong count, then 4 in order of p, q, h and density, place the position from 0."
 pub record InOrder {port starboard : List ℕ} {h density : ℕ} {answer : Answer} (made : MakesSurface port starboard h density answer) : Type 0 where
   pub seven-at-0 : (Counted port starboard → ⊥) → answer ≡ refusedWith 7 0
-  pub port-first : Counted port starboard → (i : ℕ) → FirstWide port i → answer ≡ refusedWith 4 i
-  pub then-starboard : Counted port starboard → NoneWide port → (i : ℕ) → FirstWide starboard i → answer ≡ refusedWith 4 (length port + i)
-  pub then-interval : Counted port starboard → NoneWide port → NoneWide starboard → ((50 ≤ h) × (h ≤ 1_000) → ⊥) → answer ≡ refusedWith 4 (length port + length starboard)
-  pub then-density : Counted port starboard → NoneWide port → NoneWide starboard → (50 ≤ h) × (h ≤ 1_000) → ((1 ≤ density) × (density ≤ 1_500) → ⊥) → answer ≡ refusedWith 4 (length port + length starboard + 1)
-  pub else-found : Counted port starboard → NoneWide port → NoneWide starboard → (50 ≤ h) × (h ≤ 1_000) → (1 ≤ density) × (density ≤ 1_500) → (s : FreeSurface) × (answer ≡ Found s)
+  pub port-first : Counted port starboard → (i : ℕ) → FirstAbove 1_500 port i → answer ≡ refusedWith 4 i
+  pub then-starboard : Counted port starboard → NoneAbove 1_500 port → (i : ℕ) → FirstAbove 1_500 starboard i → answer ≡ refusedWith 4 (length port + i)
+  pub then-interval : Counted port starboard → NoneAbove 1_500 port → NoneAbove 1_500 starboard → ((50 ≤ h) × (h ≤ 1_000) → ⊥) → answer ≡ refusedWith 4 (length port + length starboard)
+  pub then-density : Counted port starboard → NoneAbove 1_500 port → NoneAbove 1_500 starboard → (50 ≤ h) × (h ≤ 1_000) → ((1 ≤ density) × (density ≤ 1_500) → ⊥) → answer ≡ refusedWith 4 (length port + length starboard + 1)
+  pub else-found : Counted port starboard → NoneAbove 1_500 port → NoneAbove 1_500 starboard → (50 ≤ h) × (h ≤ 1_000) → (1 ≤ density) × (density ≤ 1_500) → (s : FreeSurface) × (answer ≡ Found s)
 
 pub record HopperTanks : Type 0 where
   pub refused-in-order : {port starboard : List ℕ} {h density : ℕ} {answer : Answer} (made : MakesSurface port starboard h density answer) → InOrder made

@@ -1,5 +1,6 @@
 -- The customer's three demands, the words that they are said in, and what the running tally, the readings of KM, the second calculation, the longer tables, the hopper tanks, the inclining test and the supply vessels are asked.
 pub mod Answering
+pub mod Limits
 pub mod Conditioned
 pub mod RunningTally
 pub mod TwoReadings

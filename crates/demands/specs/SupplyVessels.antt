@@ -17,15 +17,7 @@ use Rattle.levers.specs.declared.Answer.the-variants.{Found, Refused}
 use Rattle.levers.specs.declared.Profile.{Profile}
 use Rattle.levers.specs.declared.Rule.{Rule}
 use Rattle.levers.specs.declared.Rule.the-variants.{Met, Missed}
-
--- no KN above 20,000 mm; and the first that is
-abbrev pub NoneAbove : List ℕ → Type 0
-NoneAbove kn = (i : ℕ) → i < length kn → getD kn i 0 ≤ 20_000
-
-pub record FirstAbove (kn : List ℕ) (i : ℕ) : Type 0 where
-  pub there : i < length kn
-  pub above : 20_000 < getD kn i 0
-  pub none-before : (j : ℕ) → j < i → getD kn j 0 ≤ 20_000
+use Rattle.demands.specs.Limits.{NoneAbove, FirstAbove}
 
 abbrev pub refusedWith : ℕ → ℕ → Answer
 refusedWith number place = Refused (record { number = number; place = place })
@@ -33,10 +25,10 @@ refusedWith number place = Refused (record { number = number; place = place })
 -- "Refusals: 7 at 0, then 4 by angle, KM, KG (places 0..14)."
 pub record ProfileInOrder {kn : List ℕ} {km kg : ℕ} {gz after : List ℤ} {answer : Answer} (made : MakesProfile kn km kg gz after answer) : Type 0 where
   pub seven-at-0 : (length kn ≡ 13 → ⊥) → answer ≡ refusedWith 7 0
-  pub four-by-angle : length kn ≡ 13 → (i : ℕ) → FirstAbove kn i → answer ≡ refusedWith 4 i
-  pub four-at-km : length kn ≡ 13 → NoneAbove kn → 100_000 < km → answer ≡ refusedWith 4 13
-  pub four-at-kg : length kn ≡ 13 → NoneAbove kn → km ≤ 100_000 → 100_000 < kg → answer ≡ refusedWith 4 14
-  pub else-found : length kn ≡ 13 → NoneAbove kn → km ≤ 100_000 → kg ≤ 100_000 → (p : Profile) × (answer ≡ Found p)
+  pub four-by-angle : length kn ≡ 13 → (i : ℕ) → FirstAbove 20_000 kn i → answer ≡ refusedWith 4 i
+  pub four-at-km : length kn ≡ 13 → NoneAbove 20_000 kn → 100_000 < km → answer ≡ refusedWith 4 13
+  pub four-at-kg : length kn ≡ 13 → NoneAbove 20_000 kn → km ≤ 100_000 → 100_000 < kg → answer ≡ refusedWith 4 14
+  pub else-found : length kn ≡ 13 → NoneAbove 20_000 kn → km ≤ 100_000 → kg ≤ 100_000 → (p : Profile) × (answer ≡ Found p)
 
 -- "The peak is the first greatest GZ", at 5 degrees a number: none is greater, and all before it are less
 pub record FirstGreatest (gz : List ℤ) (angle : ℕ) : Type 0 where

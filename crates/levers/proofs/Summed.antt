@@ -1,10 +1,11 @@
 -- Multiplied sums over parts of the tables.
 --     sum-most                                   how large one is
---     sum-made, sum-not-short, sum-not-large     what the sum over a part of a table comes to
+--     sum-made, sum-else                         what the sum over a part of a table comes to, and that it comes to nothing else
 --     lever-sum, sums-small                      the sum of levers by those of their tables, which are small
 -- Assumes nothing.
 use Prim.Native.Nat.{ℕ, _+_, _-_, _^_, _≤_}
 use mathlib.Core.Path.{_≡_, sym, ap, ap₂, _∙_}
+use mathlib.Core.Bool.{Bool, true, false}
 use mathlib.Core.List.{List}
 use native.Mathlib.Omega.{arith}
 use borrow.Author.Tests.{lt-ltb, le-ltb}
@@ -12,14 +13,21 @@ use lib.IntN.{pos, _-ℤ_}
 use lib.ListN.{length, take, drop, getD, length-drop}
 use lib.Seq.{length-take-le, getD-take, getD-drop}
 use Rattle.arithmetic.proofs.Choice.{chosen}
+use Rattle.arithmetic.proofs.Tests.{never}
 use Rattle.ranges.specs.Fields.{most, metacentre}
 use Rattle.simpson.specs.Curve.{curve, curveℤ, curveSumOf}
+use Rattle.simpson.specs.declared.CurveSum.{CurveSum}
 use Rattle.simpson.specs.declared.CurveSum.the-variants.{Sum, TooShort, TooLarge}
 use Rattle.simpson.proofs.Curves.{curve-same, curveℤ-less}
 use Rattle.simpson.proofs.Moments.{curve-le}
 use Rattle.levers.specs.Levers.{lever}
 use Rattle.levers.specs.Private.Parts.{value, Small, sumOver, mostSum, TableInRange, Tables, Between}
 use Rattle.levers.specs.declared.Parts.{Parts}
+
+abbrev pub isSum : CurveSum → Bool
+isSum (Sum s) = true
+isSum TooShort = false
+isSum TooLarge = false
 
 module _ {table : List ℕ} {from to : ℕ} (so : TableInRange table) (b : Between from to) where
   pub sum-most : sumOver table from to ≤ mostSum
@@ -47,17 +55,8 @@ module _ {table : List ℕ} {from to : ℕ} (so : TableInRange table) (b : Betwe
   pub sum-made : {s : ℕ} → Sum s ≡ curveSumOf part → s ≡ sumOver table from to
   sum-made {s} e = let same : Sum s ≡ Sum (sumOver table from to) = e ∙ sum-is in cc
 
-  pub sum-not-short : {X : Type 0} → TooShort ≡ curveSumOf part → X
-  sum-not-short e =
-      let same : TooShort ≡ Sum (sumOver table from to) = e ∙ sum-is in
-      let z : _≡_ {A = ℕ} 0 1 = cc in
-      absurd (omega arith)
-
-  pub sum-not-large : {X : Type 0} → TooLarge ≡ curveSumOf part → X
-  sum-not-large e =
-      let same : TooLarge ≡ Sum (sumOver table from to) = e ∙ sum-is in
-      let z : _≡_ {A = ℕ} 0 1 = cc in
-      absurd (omega arith)
+  pub sum-else : {X : Type 0} (other : CurveSum) → isSum other ≡ false → other ≡ curveSumOf part → X
+  sum-else other none e = never (sym none ∙ ap isSum (e ∙ sum-is))
 
 module _ {kn off : List ℕ} {from to : ℕ} (so : Tables kn off) (b : Between from to) {p : Parts} (e : p .whole ≡ sumOver kn from to) (f : p .off ≡ sumOver off from to) where
   pub lever-sum : value p ≡ curveℤ (to - from) (λ i. lever kn off (from + i))

@@ -1,7 +1,8 @@
 -- The part of the table is long enough, and its sum small. Assumes nothing.
-use mathlib.Core.Path.{sym, _∙_}
+use mathlib.Core.Path.{refl, sym, _∙_}
 use borrow.Author.Needs.{needs}
-use Rattle.levers.proofs.Summed.{sum-made, sum-not-short, sum-not-large}
+use Rattle.simpson.specs.declared.CurveSum.the-variants.{TooShort, TooLarge}
+use Rattle.levers.proofs.Summed.{sum-made, sum-else}
 use Rattle.levers.proofs.sum_over.Statement.{statement}
 use Rattle.levers.proofs.sum_over.Tie as tie
 
@@ -40,12 +41,12 @@ returns c =
 returns-2 : tie.Need-returns-2
 returns-2 c =
     let s = c .before .before .before .before .before in
-    sum-not-short (s .pre .0) (s .pre .1) (sym (c .enum-told .given .1) ∙ c .before .before .curve-sum .ensures)
+    sum-else (s .pre .0) (s .pre .1) TooShort refl (sym (c .enum-told .given .1) ∙ c .before .before .curve-sum .ensures)
 
 returns-3 : tie.Need-returns-3
 returns-3 c =
     let s = c .before .before .before .before .before in
-    sum-not-large (s .pre .0) (s .pre .1) (sym (c .enum-told2 .given .1) ∙ c .before .before .curve-sum .ensures)
+    sum-else (s .pre .0) (s .pre .1) TooLarge refl (sym (c .enum-told2 .given .1) ∙ c .before .before .curve-sum .ensures)
 
 pub sum-over-spec : {M : Type 1} → statement M
 sum-over-spec =
