@@ -23,9 +23,9 @@ use Rattle.levers.proofs.Lowered.{lower-kg}
 use Rattle.levers.proofs.Making.{held-bounds}
 use Rattle.levers.proofs.Order.{size-refused, kn-refused, km-refused, kg-refused, else-found}
 use Rattle.levers.proofs.Peak.{peak-within, peak-first, held-below, held-beyond, held-itself}
-use Rattle.levers.proofs.Sines as Sines
+use Rattle.levers.proofs.Sines.{sines-right}
 use Rattle.levers.proofs.Tabled.{levers-length, lever-at, product-at}
-use Rattle.demands.specs.SupplyVessels.{ProfileInOrder, FirstGreatest, IsT, Asks, Near, SinesRight, SupplyVessels}
+use Rattle.demands.specs.SupplyVessels.{ProfileInOrder, FirstGreatest, IsT, Asks, SupplyVessels}
 
 in-order : {kn : List ℕ} {km kg : ℕ} {gz after : List ℤ} {answer : Answer} (made : MakesProfile kn km kg gz after answer) → ProfileInOrder made
 in-order made = record {
@@ -64,13 +64,13 @@ module _ {kn : List ℕ} {km kg : ℕ} {gz after : List ℤ} {p : Profile} (made
   abbrev number : ℕ
   number = peak levers
 
-  peak-is : p .peak ≡ degrees number
-  peak-is = ap (λ (p : Profile). p .peak) (told .profile-is)
+  peak-is : p .«peak_angle» ≡ degrees number
+  peak-is = ap (λ (p : Profile). p .«peak_angle») (told .profile-is)
 
   small : number < 13
   small = omega (arith, peak-within levers 12)
 
-  first-greatest : FirstGreatest after (p .peak)
+  first-greatest : FirstGreatest after (p .«peak_angle»)
   first-greatest = record {
     number = number;
     one-of-them = small;
@@ -79,10 +79,10 @@ module _ {kn : List ℕ} {km kg : ℕ} {gz after : List ℤ} {p : Profile} (made
     less-before = λ j h. rw (at j (omega (arith, small)), at number small) (peak-first levers 12 .before j h);
   }
 
-  peak-asks : Asks (p .rules .peak) 15 (pos (p .peak))
+  peak-asks : Asks (p .rules .peak) 15 (pos (p .«peak_angle»))
   peak-asks = rw (told .profile-is) (reaches 15 (pos (degrees number)))
 
-  is-t : IsT (p .peak) (t levers)
+  is-t : IsT (p .«peak_angle») (t levers)
   is-t = rw peak-is (record {
     below = λ h. sym (held-below h);
     beyond = λ h. sym (held-beyond h);
@@ -117,18 +117,6 @@ module _ {kn : List ℕ} {km kg : ℕ} {gz after : List ℤ} {p : Profile} (made
   gm-asks : Asks (p .rules .gm) 150 (p .gm)
   gm-asks = rw (told .profile-is) (reaches 150 (pos km -ℤ pos kg))
 
--- ---- the table of sines
-near : {width a b : ℕ} → Sines.Near width a b → Near width a b
-near n = record { not-above = n .0; not-below = n .1 }
-
-sines : SinesRight
-sines = record {
-  rise = Sines.rise;
-  of-double = λ i h k. near (Sines.of-double i h k);
-  of-complement = λ i h k. near (Sines.of-complement i h k);
-  of-triple = λ i h. near (Sines.of-triple i h);
-}
-
 pub supply-vessels : SupplyVessels
 supply-vessels = record {
   refused-in-order = in-order;
@@ -141,5 +129,5 @@ supply-vessels = record {
   lowering-kg = λ lower found made. lower-kg lower found made;
   but-not-the-peak = (record { kn = tyingAt10; km = 4_000; kg = 3_000; higher = _; lower = _; at-higher = peak-turned .0; at-lower = peak-turned .1 }, refl, refl);
   nor-the-area-to-t = (record { kn = tyingAt15; km = 4_000; kg = 3_009; higher = _; lower = _; at-higher = area-turned .0; at-lower = area-turned .1 }, refl, refl);
-  sines-right = sines;
+  sines-right = sines-right;
 }

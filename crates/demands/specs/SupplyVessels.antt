@@ -2,7 +2,7 @@
 use mathlib.Core.Path.{_≡_}
 use mathlib.Core.List.{List}
 use mathlib.Core.Logic.{_↔_}
-use Prim.Native.Nat.{ℕ, suc, _+_, _-_, _*_, _/_, _^_, _≤_, _<_}
+use Prim.Native.Nat.{ℕ, _+_, _-_, _*_, _/_, _≤_, _<_}
 use lib.IntN.{ℤ, pos, _-ℤ_, _*ℤ_}
 use lib.ListN.{length, getD}
 use lib.Signed.{_≤ℤ_, _<ℤ_}
@@ -11,6 +11,7 @@ use Rattle.ranges.specs.Outcome.{answered}
 use Rattle.ranges.specs.declared.Refusal.{Refusal}
 use Rattle.simpson.specs.Curve.{curveℤ}
 use Rattle.levers.specs.Promise.{profileOf, MakesProfile}
+use Rattle.levers.specs.SineRule.{SinesRight}
 use Rattle.levers.specs.Sines.{sine}
 use Rattle.levers.specs.declared.Answer.{Answer}
 use Rattle.levers.specs.declared.Answer.the-variants.{Found, Refused}
@@ -48,19 +49,6 @@ pub record IsT (peak t : ℕ) : Type 0 where
 abbrev pub Asks : Rule → ℕ → ℤ → Type 0
 Asks rule least v = (rule ≡ Met) ↔ (pos least ≤ℤ v)
 
--- two numbers are no further apart than this
-pub record Near (width a b : ℕ) : Type 0 where
-  pub not-above : a ≤ b + width
-  pub not-below : b ≤ a + width
-
--- "The table's rule", within a millionth: angle number i is of 5·i degrees, its sine in millionths. The sines rise; 1 − 2·sin²θ is the sine of 90° − 2θ, of 15 to 30 degrees;
--- the squares of complementary angles add to 1, of 30 to 45 degrees; and 3·sin θ − 4·sin³θ is the sine of 3θ, of 0 to 20 degrees, by which 5 and 10 degrees are tied to the others
-pub record SinesRight : Type 0 where
-  pub rise : (i : ℕ) → suc i < 13 → sine i < sine (suc i)
-  pub of-double : (i : ℕ) → 3 ≤ i → i ≤ 6 → Near 1_000_000 (2 * sine i ^ 2 + 1_000_000 * sine (18 - 2 * i)) (1_000_000 ^ 2)
-  pub of-complement : (i : ℕ) → 6 ≤ i → i ≤ 9 → Near 1_000_000 (sine i ^ 2 + sine (18 - i) ^ 2) (1_000_000 ^ 2)
-  pub of-triple : (i : ℕ) → i ≤ 4 → Near (1_000_000 ^ 2) (4 * sine i ^ 3 + 1_000_000 ^ 2 * sine (3 * i)) (3 * 1_000_000 ^ 2 * sine i)
-
 -- on one table of KN and one KM a profile at one KG, and one at a KG 1 mm lower
 pub record OneLower : Type 0 where
   pub kn : List ℕ
@@ -81,10 +69,10 @@ pub record SupplyVessels : Type 0 where
       × ((i : ℕ) → i < 13 → getD after i (pos 0) ≡ pos (getD kn i 0) -ℤ pos (roundedUp (kg * sine i) 1_000_000)) × (p .«gz_at_30» ≡ getD after 6 (pos 0))
   -- "The peak is the first greatest GZ; it must stand at 15 degrees or more"
   pub peak-is-the-first-greatest : {kn : List ℕ} {km kg : ℕ} {gz after : List ℤ} {p : Profile} → MakesProfile kn km kg gz after (Found p)
-      → FirstGreatest after (p .peak) × Asks (p .rules .peak) 15 (pos (p .peak))
+      → FirstGreatest after (p .«peak_angle») × Asks (p .rules .peak) 15 (pos (p .«peak_angle»))
   -- "the multiplied sum Q of GZ from 0 to t must meet 5000·Q ≥ 24·57,296·(85 − t)"
   pub area-to-t : {kn : List ℕ} {km kg : ℕ} {gz after : List ℤ} {p : Profile} → MakesProfile kn km kg gz after (Found p)
-      → (t : ℕ) × IsT (p .peak) t × (p .«sum_to_t» ≡ curveℤ (t / 5) (λ i. getD after i (pos 0))) × Asks (p .rules .«area_to_t») (24 * 57_296 * (85 - t)) (pos 5_000 *ℤ p .«sum_to_t»)
+      → (t : ℕ) × IsT (p .«peak_angle») t × (p .«sum_to_t» ≡ curveℤ (t / 5) (λ i. getD after i (pos 0))) × Asks (p .rules .«area_to_t») (24 * 57_296 * (85 - t)) (pos 5_000 *ℤ p .«sum_to_t»)
   -- "from 30 to 40 degrees 5000·Q ≥ 24·57,296·30"
   pub area-from-30-to-40 : {kn : List ℕ} {km kg : ℕ} {gz after : List ℤ} {p : Profile} → MakesProfile kn km kg gz after (Found p)
       → (p .«sum_from_30_to_40» ≡ curveℤ 2 (λ i. getD after (6 + i) (pos 0))) × Asks (p .rules .«area_from_30_to_40») (24 * 57_296 * 30) (pos 5_000 *ℤ p .«sum_from_30_to_40»)
@@ -99,4 +87,5 @@ pub record SupplyVessels : Type 0 where
   -- the peak and the area to t are not in it: there is a table on which the one, and one on which the other, is met and 1 mm lower missed
   pub but-not-the-peak : (x : OneLower) × (x .higher .rules .peak ≡ Met) × (x .lower .rules .peak ≡ Missed)
   pub nor-the-area-to-t : (x : OneLower) × (x .higher .rules .«area_to_t» ≡ Met) × (x .lower .rules .«area_to_t» ≡ Missed)
+  -- the table of sines keeps its rule
   pub sines-right : SinesRight

@@ -40,7 +40,7 @@ five peak to-t from-30 gz gm = record { peak = peak; «area_to_t» = to-t; «are
 -- the peak's angle, GM, GZ at 30 degrees, the sums to t and from 30 to 40 degrees
 abbrev pub is : ℕ → ℤ → ℤ → ℤ → ℤ → Rules → Outcome Profile
 is peak gm gz to-t from-30 rules =
-    answered (record { peak = peak; gm = gm; «gz_at_30» = gz; «sum_to_t» = to-t; «sum_from_30_to_40» = from-30; rules = rules })
+    answered (record { «peak_angle» = peak; gm = gm; «gz_at_30» = gz; «sum_to_t» = to-t; «sum_from_30_to_40» = from-30; rules = rules })
 
 abbrev pub plainestProfiles : List (Given × Outcome Profile)
 plainestProfiles =

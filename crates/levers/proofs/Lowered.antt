@@ -18,7 +18,7 @@ use Rattle.simpson.proofs.Curves.{curve-mono, curveℤ-less}
 use Rattle.levers.specs.Criterion.{leastArea, leastGZ, leastGM, atLeast, areaAtLeast, GM}
 use Rattle.levers.specs.Levers.{products, lever, GZ, Q}
 use Rattle.levers.specs.Promise.{MakesProfile}
-use Rattle.levers.specs.Sines.{sine, million, numberOf}
+use Rattle.levers.specs.Sines.{sine, million, numberAt}
 use Rattle.levers.specs.declared.Answer.{Answer}
 use Rattle.levers.specs.declared.Answer.the-variants.{Found}
 use Rattle.levers.specs.declared.Profile.{Profile}
@@ -73,7 +73,7 @@ module _ (kn : List ℕ) {kg kg′ : ℕ} (lower : kg′ ≤ kg) where
 
   pub area-still : (least : ℕ) → areaAtLeast least (Q (GZ kn kg) 30 40) ≡ Met → areaAtLeast least (Q (GZ kn kg′) 30 40) ≡ Met
   unfolding Q
-  area-still least is = area-kept (numberOf 30) (numberOf (40 - 30)) least is
+  area-still least is = area-kept (numberAt 30) (numberAt (40 - 30)) least is
 
 module _ {kn : List ℕ} {km kg kg′ : ℕ} (lower : kg′ ≤ kg) {gz gz′ after after′ : List ℤ} {answer : Answer} {p : Profile}
     (found : MakesProfile kn km kg gz after (Found p)) (made : MakesProfile kn km kg′ gz′ after′ answer) where
@@ -93,5 +93,5 @@ module _ {kn : List ℕ} {km kg kg′ : ℕ} (lower : kg′ ≤ kg) {gz gz′ af
         answered .1,
         λ met. ap (λ (r : Rules). r .gm) is ∙ gm-still kn lower km (sym (ap (λ (r : Rules). r .gm) was) ∙ met),
         λ met. ap (λ (r : Rules). r .«area_from_30_to_40») is ∙ area-still kn lower leastArea (sym (ap (λ (r : Rules). r .«area_from_30_to_40») was) ∙ met),
-        λ met. ap (λ (r : Rules). r .«gz_at_30») is ∙ gz-still kn lower leastGZ (numberOf 30) (sym (ap (λ (r : Rules). r .«gz_at_30») was) ∙ met),
+        λ met. ap (λ (r : Rules). r .«gz_at_30») is ∙ gz-still kn lower leastGZ (numberAt 30) (sym (ap (λ (r : Rules). r .«gz_at_30») was) ∙ met),
       )

@@ -19,7 +19,7 @@ use Rattle.levers.specs.Criterion.{leastPeak, areaAndT, leastArea, least
 use Rattle.levers.specs.Levers.{products, lever, GZ, atEach, peak, Q, held, t}
 use Rattle.levers.specs.Private.Parts.{Between}
 use Rattle.levers.specs.Promise.{profileOf, leversAfter, MakesProfile}
-use Rattle.levers.specs.Sines.{degrees, numberOf}
+use Rattle.levers.specs.Sines.{degrees, numberAt}
 use Rattle.levers.specs.declared.Answer.{Answer}
 use Rattle.levers.specs.declared.Answer.the-variants.{Found, Refused}
 use Rattle.levers.specs.declared.Profile.{Profile}
@@ -42,7 +42,7 @@ module _ (gz : ℕ → ℤ) (number last : ℕ) (e : number ≡ peak gz) (f : de
   pub to-t : {v : ℤ} → v ≡ curveℤ (last - 0) (λ i. gz (0 + i)) → v ≡ Q gz 0 (t gz)
   unfolding Q
   to-t is =
-      let n : last - 0 ≡ numberOf (t gz - 0) = omega (arith, t-is) in
+      let n : last - 0 ≡ numberAt (t gz - 0) = omega (arith, t-is) in
       is ∙ ap (λ n. curveℤ n (λ i. gz (0 + i))) n
 
   pub area-to-t : {v : ℤ} {r : Rule} → r ≡ areaAtLeast (areaAndT - degrees last) v → v ≡ curveℤ (last - 0) (λ i. gz (0 + i)) → r ≡ areaAtLeast (areaAndT - t gz) (Q gz 0 (t gz))
@@ -51,7 +51,7 @@ module _ (gz : ℕ → ℤ) (number last : ℕ) (e : number ≡ peak gz) (f : de
   pub stands : {r : Rule} → r ≡ atLeast leastPeak (pos (degrees number) -ℤ pos 0) → r ≡ atLeast leastPeak (pos (degrees (peak gz)))
   stands r = r ∙ ap (λ n. atLeast leastPeak (pos n)) (omega (arith, e))
 
-pub from-30 : (gz : ℕ → ℤ) {v : ℤ} → v ≡ curveℤ (numberOf 40 - numberOf 30) (λ i. gz (numberOf 30 + i)) → v ≡ Q gz 30 40
+pub from-30 : (gz : ℕ → ℤ) {v : ℤ} → v ≡ curveℤ (numberAt 40 - numberAt 30) (λ i. gz (numberAt 30 + i)) → v ≡ Q gz 30 40
 unfolding Q
 from-30 gz is = is
 
@@ -59,17 +59,17 @@ module _ (gz : ℕ → ℤ) (height : ℤ) {gm lever30 toT from30 : ℤ} {angle 
   pub made :
       angle ≡ degrees (peak gz)
       → gm ≡ height
-      → lever30 ≡ gz (numberOf 30)
+      → lever30 ≡ gz (numberAt 30)
       → toT ≡ Q gz 0 (t gz)
       → from30 ≡ Q gz 30 40
       → a ≡ atLeast leastPeak (pos (degrees (peak gz)))
       → b ≡ areaAtLeast (areaAndT - t gz) (Q gz 0 (t gz))
       → c ≡ areaAtLeast leastArea (Q gz 30 40)
-      → d ≡ atLeast leastGZ (gz (numberOf 30))
+      → d ≡ atLeast leastGZ (gz (numberAt 30))
       → e ≡ atLeast leastGM height
-      → record { peak = angle; gm = gm; «gz_at_30» = lever30; «sum_to_t» = toT; «sum_from_30_to_40» = from30; rules = record { peak = a; «area_to_t» = b; «area_from_30_to_40» = c; «gz_at_30» = d; gm = e } } ≡ profile gz height
+      → record { «peak_angle» = angle; gm = gm; «gz_at_30» = lever30; «sum_to_t» = toT; «sum_from_30_to_40» = from30; rules = record { peak = a; «area_to_t» = b; «area_from_30_to_40» = c; «gz_at_30» = d; gm = e } } ≡ profile gz height
   made p g l s u v w x y z = λ i. record {
-    peak = p i;
+    «peak_angle» = p i;
     gm = g i;
     «gz_at_30» = l i;
     «sum_to_t» = s i;

@@ -1,7 +1,6 @@
 -- The rule of the table of sines, by a test that is computed over the whole table, so that a slipped digit shows.
---     sinesRight, sines-right                        the sines rise, and keep the rules below within a millionth
---     Near                                           two numbers are so near
---     rise, of-double, of-complement, of-triple      what the test says of each angle
+--     sinesRight, test-passes     the test, and that the table passes it
+--     sines-right                 what it says of each angle
 -- Assumes nothing.
 use Prim.Native.Nat.{ℕ, zero, suc, _+_, _-_, _*_, _^_, _≤_, _<_}
 use mathlib.Core.Bool.{Bool, true, _&&_}
@@ -12,7 +11,8 @@ use borrow.Author.Tests.{leb-true, ltb-true}
 use lib.Dec.{leb, ltb}
 use lib.ListN.{length, getD}
 use Rattle.arithmetic.proofs.Tests.{both, same-or-other}
-use Rattle.levers.specs.Sines.{sines, sine, million, angleCount}
+use Rattle.levers.specs.SineRule.{Near, SinesRight}
+use Rattle.levers.specs.Sines.{sines, sine, million}
 
 -- ---- the test
 rising : List ℕ → Bool
@@ -41,9 +41,9 @@ triple i = near (million ^ 2) (4 * sine i ^ 3 + million ^ 2 * sine (3 * i)) (3 *
 pub sinesRight : Bool
 sinesRight = rising sines && (each double 3 4 && (each complement 6 4 && each triple 0 5))
 
-pub sines-right : sinesRight ≡ true
+pub test-passes : sinesRight ≡ true
 unfolding sinesRight rising near each double complement triple
-sines-right = refl
+test-passes = refl
 
 -- ---- what it says
 rising-at : (l : List ℕ) → rising l ≡ true → (i : ℕ) → suc i < length l → getD l i 0 < getD l (suc i) 0
@@ -60,33 +60,25 @@ each-at f from (suc count) e i h k =
     let so = both (f from) (each f (suc from) count) e in
     same-or-other i from (λ is. subst (λ i. f i ≡ true) (sym is) (so .0)) (λ other. each-at f (suc from) count (so .1) i (omega arith) (omega arith))
 
-abbrev pub Near : ℕ → ℕ → ℕ → Type 0
-Near width a b = (a ≤ b + width) × (b ≤ a + width)
-
 near-told : (width a b : ℕ) → near width a b ≡ true → Near width a b
 unfolding near
 near-told width a b e =
-    let so = both (leb a (b + width)) (leb b (a + width)) e in (leb-true a (b + width) (so .0), leb-true b (a + width) (so .1))
+    let so = both (leb a (b + width)) (leb b (a + width)) e in
+    record { not-above = leb-true a (b + width) (so .0); not-below = leb-true b (a + width) (so .1) }
 
 rest : (rising sines ≡ true) × (each double 3 4 ≡ true) × (each complement 6 4 ≡ true) × (each triple 0 5 ≡ true)
 unfolding sinesRight
 rest =
-    let first = both (rising sines) (each double 3 4 && (each complement 6 4 && each triple 0 5)) sines-right in
+    let first = both (rising sines) (each double 3 4 && (each complement 6 4 && each triple 0 5)) test-passes in
     let second = both (each double 3 4) (each complement 6 4 && each triple 0 5) (first .1) in
     let third = both (each complement 6 4) (each triple 0 5) (second .1) in
     (first .0, second .0, third .0, third .1)
 
-pub rise : (i : ℕ) → suc i < angleCount → sine i < sine (suc i)
-rise i h = rising-at sines (rest .0) i h
-
-pub of-double : (i : ℕ) → 3 ≤ i → i ≤ 6 → Near million (2 * sine i ^ 2 + million * sine (18 - 2 * i)) (million ^ 2)
-unfolding double
-of-double i h k = near-told million (2 * sine i ^ 2 + million * sine (18 - 2 * i)) (million ^ 2) (each-at double 3 4 (rest .1) i h (omega arith))
-
-pub of-complement : (i : ℕ) → 6 ≤ i → i ≤ 9 → Near million (sine i ^ 2 + sine (18 - i) ^ 2) (million ^ 2)
-unfolding complement
-of-complement i h k = near-told million (sine i ^ 2 + sine (18 - i) ^ 2) (million ^ 2) (each-at complement 6 4 (rest .2) i h (omega arith))
-
-pub of-triple : (i : ℕ) → i ≤ 4 → Near (million ^ 2) (4 * sine i ^ 3 + million ^ 2 * sine (3 * i)) (3 * million ^ 2 * sine i)
-unfolding triple
-of-triple i h = near-told (million ^ 2) (4 * sine i ^ 3 + million ^ 2 * sine (3 * i)) (3 * million ^ 2 * sine i) (each-at triple 0 5 (rest .3) i (omega arith) (omega arith))
+pub sines-right : SinesRight
+unfolding double complement triple
+sines-right = record {
+  rise = rising-at sines (rest .0);
+  of-double = λ i h k. near-told million (2 * sine i ^ 2 + million * sine (18 - 2 * i)) (million ^ 2) (each-at double 3 4 (rest .1) i h (omega arith));
+  of-complement = λ i h k. near-told million (sine i ^ 2 + sine (18 - i) ^ 2) (million ^ 2) (each-at complement 6 4 (rest .2) i h (omega arith));
+  of-triple = λ i h. near-told (million ^ 2) (4 * sine i ^ 3 + million ^ 2 * sine (3 * i)) (3 * million ^ 2 * sine i) (each-at triple 0 5 (rest .3) i (omega arith) (omega arith));
+}

@@ -2,7 +2,7 @@
 --     sine-le                                     no sine is above 1
 --     products-length, product-at, product-le     the products, each by its number, and none above KG
 --     products-in-range                           so they are a table in range, as KN in range is: kn-in-range
---     lever-small, lever-is, lever-back           a lever by its parts, which are small; and as a callee made it
+--     lever-is, lever-small, lever-back           a lever by its parts, which are small; and as a callee made it
 --     levers-length, lever-at                     the levers, each by its number
 -- Assumes nothing.
 use Prim.Native.Nat.{ℕ, zero, suc, _+_, _*_, _≤_, _<_}
@@ -25,9 +25,8 @@ use Rattle.ranges.specs.Fields.{_to_, within, most, metacentre, crossLever}
 use Rattle.ranges.specs.Outside.{firstOutside, outsideFrom}
 use Rattle.ranges.proofs.Facts.{wholes-in-range}
 use Rattle.levers.specs.Levers.{products, lever, angles, atEach}
-use Rattle.levers.specs.Private.Parts.{value, Small, TableInRange, Tables}
+use Rattle.levers.specs.Private.Parts.{value, Small, leverParts, TableInRange, Tables}
 use Rattle.levers.specs.Sines.{sines, sine, million, angleCount}
-use Rattle.levers.specs.declared.Parts.{Parts}
 use Rattle.levers.proofs.Comparing.{value-back}
 
 -- ---- the products
@@ -66,15 +65,12 @@ kn-in-range {kn} e h = record { as-many = e; none-higher = λ i. omega (arith, h
 
 -- ---- the levers
 module _ {kn off : List ℕ} (so : Tables kn off) (i : ℕ) where
-  abbrev parts : Parts
-  parts = record { whole = getD kn i 0; off = getD off i 0 }
-
-  pub lever-small : Small parts
-  lever-small = record { whole-most = omega (arith, so .of-kn .none-higher i); off-most = omega (arith, so .of-off .none-higher i) }
-
-  pub lever-is : value parts ≡ lever kn off i
+  pub lever-is : value (leverParts kn off i) ≡ lever kn off i
   unfolding lever
   lever-is = refl
+
+  pub lever-small : Small (leverParts kn off i)
+  lever-small = record { whole-most = omega (arith, so .of-kn .none-higher i); off-most = omega (arith, so .of-off .none-higher i) }
 
   pub lever-back : {r : ℤ} → r ≡ nearest (pos (getD kn i 0) -ℤ pos (getD off i 0)) → back r ≡ lever kn off i
   unfolding lever

@@ -4,7 +4,7 @@ use lib.IntN.{ℤ, pos, _-ℤ_, _*ℤ_}
 use lib.Signed.{leZ}
 use Rattle.arithmetic.specs.Choice.{if_then_else_}
 use Rattle.levers.specs.Levers.{peak, Q, t}
-use Rattle.levers.specs.Sines.{degrees, numberOf}
+use Rattle.levers.specs.Sines.{degrees, numberAt}
 use Rattle.levers.specs.declared.Profile.{Profile}
 use Rattle.levers.specs.declared.Rule.{Rule}
 use Rattle.levers.specs.declared.Rule.the-variants.{Met, Missed}
@@ -54,15 +54,15 @@ module _ (gz : ℕ → ℤ) (gm : ℤ) where
     -- "from 30 to 40 degrees 5000·Q ≥ 24·57,296·30"
     «area_from_30_to_40» = areaAtLeast leastArea (Q gz 30 40);
     -- "GZ at 30 is at least 200, GM at least 150"
-    «gz_at_30» = atLeast leastGZ (gz (numberOf 30));
+    «gz_at_30» = atLeast leastGZ (gz (numberAt 30));
     gm = atLeast leastGM gm;
   }
 
   abbrev pub profile : Profile
   profile = record {
-    peak = degrees (peak gz);
+    «peak_angle» = degrees (peak gz);
     gm = gm;
-    «gz_at_30» = gz (numberOf 30);
+    «gz_at_30» = gz (numberAt 30);
     «sum_to_t» = Q gz 0 (t gz);
     «sum_from_30_to_40» = Q gz 30 40;
     rules = rules;

@@ -8,7 +8,7 @@ use lib.Signed.{ltZ}
 use Rattle.arithmetic.specs.Choice.{if_then_else_}
 use Rattle.arithmetic.specs.Rounding.{roundedUp}
 use Rattle.simpson.specs.Curve.{curveℤ}
-use Rattle.levers.specs.Sines.{sines, million, angleCount, degrees, numberOf}
+use Rattle.levers.specs.Sines.{sines, million, angleCount, degrees, numberAt}
 
 -- "KG .. times the sine, that product rounded up", at each angle
 unfoldable pub products : ℕ → List ℕ
@@ -40,7 +40,7 @@ module _ (gz : ℕ → ℤ) where
 
   -- "the multiplied sum Q of GZ" from one angle to another, by document 01's multipliers
   unfoldable pub Q : ℕ → ℕ → ℤ
-  Q from to = curveℤ (numberOf (to - from)) (λ i. gz (numberOf from + i))
+  Q from to = curveℤ (numberAt (to - from)) (λ i. gz (numberAt from + i))
 
 -- "t the peak's angle, but 15 if below and 30 if beyond"
 unfoldable pub held : ℕ → ℕ

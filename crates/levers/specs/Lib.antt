@@ -1,5 +1,6 @@
--- The supply-vessel profile: the sines, the righting levers, the criterion that they are held against, and what the call that makes them comes to.
+-- The supply-vessel profile: the sines and their rule, the righting levers, the criterion that they are held against, and what the call that makes them comes to.
 pub mod Sines
+pub mod SineRule
 pub mod Levers
 pub mod Criterion
 pub mod Promise

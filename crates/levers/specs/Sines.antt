@@ -1,4 +1,4 @@
--- "Sines in millionths", at "0 to 60 degrees by 5". Their rule: `Sines` of proofs/.
+-- "Sines in millionths", at "0 to 60 degrees by 5". Their rule: `SineRule`.
 use Prim.Native.Nat.{ℕ, _*_, _/_}
 use mathlib.Core.List.{List, [], _∷_}
 use lib.ListN.{length, getD}
@@ -21,8 +21,8 @@ step = 5
 abbrev pub degrees : ℕ → ℕ
 degrees i = step * i
 
-abbrev pub numberOf : ℕ → ℕ
-numberOf angle = angle / step
+abbrev pub numberAt : ℕ → ℕ
+numberAt angle = angle / step
 
 -- the sine of an angle by its number
 abbrev pub sine : ℕ → ℕ

@@ -7,7 +7,7 @@ ghost use Rattle.levers.specs.Sines.{angleCount, degrees};
 ghost use Rattle.levers.specs.Levers.{products, lever, atEach, peak, held};
 ghost use Rattle.levers.specs.Criterion.{atLeast, areaAtLeast, GM, profile};
 ghost use Rattle.levers.specs.Promise.{outside, MakesProfile};
-ghost use Rattle.levers.specs.Private.Parts.{value, Small, greaterOf, sumOver, TableInRange, Tables, Between, leastMost};
+ghost use Rattle.levers.specs.Private.Parts.{value, Small, leverParts, greaterOf, sumOver, TableInRange, Tables, Between, leastMost};
 use ranges::Refusal;
 use simpson::CurveSum;
 
@@ -29,7 +29,7 @@ pub struct Rules {
 // The peak's angle in degrees; GM and GZ at 30 degrees in mm; the multiplied sums of GZ from 0 to t, the peak's angle held
 // from 15 to 30, and from 30 to 40 degrees; and the rules.
 pub struct Profile {
-    pub peak: u64,
+    pub peak_angle: u64,
     pub gm: i64,
     pub gz_at_30: i64,
     pub sum_to_t: i64,
@@ -213,13 +213,11 @@ fn lever_sum(kn: &[u64], off: &[u64], from: usize, to: usize) -> Parts
 // GZ at an angle, by number.
 fn lever_at(kn: &[u64], off: &[u64], i: usize) -> Parts
     requires { ⌜ Tables (now kn) (now off) × (i < angleCount) ⌝ }
-    ensures { λ r. ⌜ value r ≡ lever (now (kn .entry)) (now (off .entry)) i ⌝ }
-    ensures { λ r. ⌜ Small r ⌝ }
+    ensures { λ r. ⌜ r ≡ leverParts (now (kn .entry)) (now (off .entry)) i ⌝ }
 {
-    Parts {
-        whole: kn[i],
-        off: off[i],
-    }
+    let whole = kn[i];
+    let taken = off[i];
+    Parts { whole, off: taken }
 }
 
 // What parts come to.
@@ -270,7 +268,7 @@ fn profile_by(kn: &[u64], off: &[u64], km: u64, kg: u64) -> Profile
         off: 0,
     };
     Profile {
-        peak: angle,
+        peak_angle: angle,
         gm: value_of(gm),
         gz_at_30: value_of(at_30),
         sum_to_t: value_of(to_t),

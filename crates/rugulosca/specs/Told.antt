@@ -69,7 +69,7 @@ met Missed = 0
 
 abbrev pub profileWholes : Profile → List ℕ
 profileWholes p =
-    p .peak ∷ met (p .rules .peak) ∷ met (p .rules .«area_to_t») ∷ met (p .rules .«area_from_30_to_40») ∷ met (p .rules .«gz_at_30») ∷ met (p .rules .gm) ∷ []
+    p .«peak_angle» ∷ met (p .rules .peak) ∷ met (p .rules .«area_to_t») ∷ met (p .rules .«area_from_30_to_40») ∷ met (p .rules .«gz_at_30») ∷ met (p .rules .gm) ∷ []
 
 abbrev pub profileSigned : Profile → List ℤ
 profileSigned p = p .gm ∷ p .«gz_at_30» ∷ p .«sum_to_t» ∷ p .«sum_from_30_to_40» ∷ []

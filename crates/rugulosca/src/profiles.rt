@@ -35,7 +35,7 @@ fn wholes_of(profile: Profile) -> [u64; WHOLE_COUNT]
     let gz_at_30 = rules.gz_at_30;
     let gm = rules.gm;
     [
-        profile.peak,
+        profile.peak_angle,
         met(peak),
         met(area_to_t),
         met(area_from_30_to_40),

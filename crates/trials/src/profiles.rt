@@ -52,7 +52,7 @@ fn after_refusal(text: &[u8], gz: &[i64; ANGLES], refusal: Refusal) -> usize {
 // The place after the line of a profile: A, the peak's angle, GM, GZ at 30 degrees, the sums to t and from 30 to 40 degrees, and the rules.
 fn after_profile(text: &[u8], profile: Profile) -> usize {
     let mark = places::after(text, 0, b"A");
-    let peak = places::after_number(text, mark, arithmetic::signed(profile.peak));
+    let peak = places::after_number(text, mark, arithmetic::signed(profile.peak_angle));
     let gm = places::after_number(text, peak, profile.gm);
     let at_30 = places::after_number(text, gm, profile.gz_at_30);
     let to_t = places::after_number(text, at_30, profile.sum_to_t);

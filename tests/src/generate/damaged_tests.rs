@@ -34,6 +34,7 @@ pub fn damage(random: &mut Random, inclining: &mut Inclining, room: &mut usize) 
                 inclining.test[i] = edge(random, TEST[i], inclining.test[i] as i64) as u64;
             }
         }
+        // the last number of the sheet
         6 => {
             if let (Some(last), Some(range)) = (inclining.on.last_mut(), ITEM.last()) {
                 *last = edge(random, *range, *last);

@@ -1,14 +1,16 @@
 -- Each number of the profile and each rule, by its own function. Assumes nothing.
 use Prim.Native.Nat.{_≤_}
-use mathlib.Core.Path.{ap, _∙_}
+use mathlib.Core.Path.{sym, ap, subst, _∙_}
 use native.Mathlib.Omega.{arith}
 use borrow.Author.Needs.{needs}
 use Rattle.arithmetic.proofs.Crossing.{back-is}
 use Rattle.levers.specs.Criterion.{leastArea, leastGZ, atLeast, areaAtLeast, GM}
 use Rattle.levers.specs.Levers.{lever}
-use Rattle.levers.specs.Sines.{degrees}
+use Rattle.levers.specs.Private.Parts.{value, Small}
+use Rattle.levers.specs.Sines.{degrees, numberAt}
 use Rattle.levers.proofs.Making.{held-within, to-t, area-to-t, stands, from-30, made}
 use Rattle.levers.proofs.Peak.{peak-within}
+use Rattle.levers.proofs.Tabled.{lever-is, lever-small}
 use Rattle.levers.proofs.profile_by.Statement.{statement}
 use Rattle.levers.proofs.profile_by.Tie as tie
 
@@ -39,11 +41,17 @@ lever-sum-requires-2 c κs = search needs
 lever-at-requires : tie.Need-lever-at-requires
 lever-at-requires c κs = search needs
 
+-- GZ at 30 degrees is small
+lever-in-range : (c : tie.After-lever-at) → Small (c .lever-at .result)
+lever-in-range c =
+    let s = c .before .before .before .before .before .before .before in
+    subst Small (sym (c .lever-at .ensures)) (lever-small (s .pre .0) (numberAt 30))
+
 value-of-requires : tie.Need-value-of-requires
 value-of-requires c κs = search needs
 
 value-of-requires-2 : tie.Need-value-of-requires-2
-value-of-requires-2 c κs = search needs
+value-of-requires-2 c κs = lever-in-range (c .before)
 
 value-of-requires-3 : tie.Need-value-of-requires-3
 value-of-requires-3 c κs = search needs
@@ -68,7 +76,7 @@ area-at-least-requires-2 : tie.Need-area-at-least-requires-2
 area-at-least-requires-2 c κs = search needs
 
 at-least-requires-2 : tie.Need-at-least-requires-2
-at-least-requires-2 c κs = search needs
+at-least-requires-2 c κs = (omega arith, lever-in-range (c .before .before .before .before .before .before .before))
 
 at-least-requires-3 : tie.Need-at-least-requires-3
 at-least-requires-3 c κs =
@@ -87,17 +95,18 @@ returns c =
     let s = held .before .before .before .before in
     let gz = lever (s .args .kn .now) (s .args .off .now) in
     let peak-is = held .before .peak-of .ensures in
+    let lever30 = ap value (at .lever-at .ensures) ∙ lever-is (s .pre .0) (numberAt 30) in
     let beyond = from-30 gz (from .lever-sum2 .ensures .0) in
     made gz (GM (s .args .km) (s .args .kg))
     (ap degrees peak-is)
     (back-is (record { sfits = height .value-of .ok }) ∙ height .value-of .ensures)
-    (back-is (record { sfits = values .before .before .value-of2 .ok }) ∙ values .before .before .value-of2 .ensures ∙ at .lever-at .ensures .0)
+    (back-is (record { sfits = values .before .before .value-of2 .ok }) ∙ values .before .before .value-of2 .ensures ∙ lever30)
     (back-is (record { sfits = values .before .value-of3 .ok }) ∙ values .before .value-of3 .ensures ∙ to-t gz _ _ peak-is (held .held-at .ensures) (to .lever-sum .ensures .0))
     (back-is (record { sfits = values .value-of4 .ok }) ∙ values .value-of4 .ensures ∙ beyond)
     (stands gz _ _ peak-is (held .held-at .ensures) (rule .at-least .ensures))
     (area-to-t gz _ _ peak-is (held .held-at .ensures) (c .before .before .before .area-at-least .ensures) (to .lever-sum .ensures .0))
     (c .before .before .area-at-least2 .ensures ∙ ap (areaAtLeast leastArea) beyond)
-    (c .before .at-least2 .ensures ∙ ap (atLeast leastGZ) (at .lever-at .ensures .0))
+    (c .before .at-least2 .ensures ∙ ap (atLeast leastGZ) lever30)
     (c .at-least3 .ensures)
 
 pub profile-by-spec : {M : Type 1} → statement M

@@ -15,6 +15,10 @@ use Rattle.levers.specs.declared.Parts.{Parts}
 abbrev pub value : Parts → ℤ
 value p = pos (p .whole) -ℤ pos (p .off)
 
+-- a lever of two tables
+abbrev pub leverParts : List ℕ → List ℕ → ℕ → Parts
+leverParts kn off i = record { whole = getD kn i 0; off = getD off i 0 }
+
 -- of two angles the one with the greater lever, and the first where they are alike
 abbrev pub greaterOf : (ℕ → ℤ) → ℕ → ℕ → ℕ
 greaterOf gz first i = if ltZ (gz first) (gz i) then i else first
