@@ -7,8 +7,11 @@ use native.Mathlib.Nat.{mul-add, add-mul, mul-assoc, mul-comm, mul-left-comm, po
 use native.Mathlib.Numerals.{suc-eq-add-one}
 use native.Mathlib.Omega.{arith}
 
+pub pow1 : (x : ℕ) → x ^ 1 ≡ x
+pow1 x = pow-suc x 0 ∙ ap (λ y. y * x) (pow-zero x) ∙ one-mul x
+
 pub pow2 : (x : ℕ) → x ^ 2 ≡ x * x
-pow2 x = pow-suc x 1 ∙ ap (λ y. y * x) (pow-suc x 0 ∙ ap (λ y. y * x) (pow-zero x) ∙ one-mul x)
+pow2 x = pow-suc x 1 ∙ ap (λ y. y * x) (pow1 x)
 
 pub pow3 : (x : ℕ) → x ^ 3 ≡ x * x * x
 pow3 x = pow-suc x 2 ∙ ap (λ y. y * x) (pow2 x)

@@ -7,7 +7,7 @@
 --     sum-plus                         a sum of sums
 --     sum-times, times-sum             a factor taken out, on the right and on the left
 --     weighted-plus, weighted-times    a sum of weighted terms is linear in the terms
---     sum-swap                         two sums exchanged
+--     sum-swap, weighted-sum           two sums exchanged, and a weighted sum of sums
 -- Over ℕ alone:
 --     sum-le, sum-mono                 a bound on each term; terms never larger
 --     sum-grows, term-le-sum           more terms, never less; one term among them
@@ -99,6 +99,10 @@ module _ {R : Type 0} (S : Semiring R) where
       ∙ ap (λ x. x ⊕ sum n (f m)) (sum-swap m n f)
       ∙ sym (sum-plus n (λ j. sum m (λ i. f i j)) (λ j. f m j))
       ∙ sum-same n _ (λ j. sum (suc m) (λ i. f i j)) (λ j l. sym (sum-step m (λ i. f i j)))
+
+  pub weighted-sum : (m n : ℕ) (u : ℕ → R) (f : ℕ → ℕ → R) → sumBy _⊕_ none m (λ i. u i ⊗ sumBy _⊕_ none n (λ j. f i j)) ≡ sumBy _⊕_ none n (λ j. sumBy _⊕_ none m (λ i. u i ⊗ f i j))
+  weighted-sum m n u f =
+      sum-same m _ (λ i. sum n (λ j. u i ⊗ f i j)) (λ i l. sym (times-sum n (u i) (f i))) ∙ sum-swap m n (λ i j. u i ⊗ f i j)
 
 -- ---- over ℕ
 pub sum-le : (n k : ℕ) (f : ℕ → ℕ) → ((i : ℕ) → i < n → f i ≤ k) → sumTo n f ≤ n * k

@@ -6,11 +6,12 @@
 --     same-test       two tests that hold together are the same
 --     less-or-not     one number is below another, or it is not
 --     flag-le         a test, counted, is at most 1
+--     each, each-at   a test at so many numbers from one on, to be computed; and what it says of each
 -- Assumes nothing.
-use Prim.Native.Nat.{ℕ, _≤_, _<_}
+use Prim.Native.Nat.{ℕ, zero, suc, _+_, _≤_, _<_}
 use mathlib.Core.Bool.{Bool, true, false, _&&_}
 use mathlib.Core.Logic.{_⊎_, inl, inr}
-use mathlib.Core.Path.{_≡_, refl, sym}
+use mathlib.Core.Path.{_≡_, refl, sym, subst}
 use native.Mathlib.Omega.{arith}
 use borrow.Author.Tests.{ltb-true, ltb-false, eqb-true, eqb-false}
 use lib.Dec.{ltb, eqb, lit≤}
@@ -45,3 +46,14 @@ less-or-not n m = told (ltb n m) refl
 pub flag-le : (t : Bool) → boolByte t ≤ 1
 flag-le true = lit≤ tt
 flag-le false = lit≤ tt
+
+unfoldable pub each : (ℕ → Bool) → ℕ → ℕ → Bool
+each f from zero = true
+each f from (suc count) = f from && each f (suc from) count
+
+pub each-at : (f : ℕ → Bool) (from count : ℕ) → each f from count ≡ true → (i : ℕ) → from ≤ i → i < from + count → f i ≡ true
+unfolding each
+each-at f from zero e i h k = absurd (omega arith)
+each-at f from (suc count) e i h k =
+    let so = both (f from) (each f (suc from) count) e in
+    same-or-other i from (λ is. subst (λ i. f i ≡ true) (sym is) (so .0)) (λ other. each-at f (suc from) count (so .1) i (omega arith) (omega arith))

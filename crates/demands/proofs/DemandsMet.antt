@@ -45,6 +45,7 @@ use Rattle.demands.proofs.Hoppers.{in-order, beside-condition}
 use Rattle.demands.proofs.Inclined.{inclining-test}
 use Rattle.demands.proofs.Longer.{longer-tables}
 use Rattle.demands.proofs.Profiled.{supply-vessels}
+use Rattle.demands.proofs.Volumes.{exact-volumes}
 
 demand-1 : Demand1
 demand-1 = record {
@@ -79,6 +80,7 @@ demand-2 = record {
       let k = waterlineOf r in
       let area-is = made-area made r h in
       (ap pos (Q-is halfBreadths p k) ∙ curve-exact (p .n) (λ i. halfBreadth halfBreadths p i k) a b c e (area-is .0) is, area-is .1);
+  hulls-get-their-volumes = exact-volumes;
   what-is-written-is-read-back = write-then-read;
 }
 

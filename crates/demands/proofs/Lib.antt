@@ -5,4 +5,5 @@ pub mod Longer
 pub mod Hoppers
 pub mod Inclined
 pub mod Profiled
+pub mod Volumes
 pub mod DemandsMet

@@ -67,6 +67,7 @@ use Rattle.report.specs.declared.Report.{Report as Reported}
 use Rattle.rugulosca.specs.Told.{Tells, Apart}
 use Rattle.demands.specs.Answering.{AnswersOrRefuses}
 use Rattle.demands.specs.Conditioned.{Conditioned, IsCondition}
+use Rattle.demands.specs.ExactVolumes.{ExactVolumes}
 use Rattle.demands.specs.HopperTanks.{HopperTanks}
 use Rattle.demands.specs.IncliningTest.{IncliningTest}
 use Rattle.demands.specs.LongerTables.{LongerTables}
@@ -122,6 +123,8 @@ pub record Demand2 : Type 0 where
   pub waterlines-get-their-areas : {halfBreadths : List ℕ} {p : Particulars} {rows after : List ℕ} {count : ℕ} → MakesRows halfBreadths p rows after (Made count)
       → (r : ℕ) → r < count → (a b c e : ℤ) → ((i : ℕ) → i ≤ p .n → pos (halfBreadth halfBreadths p i (waterlineOf r)) ≡ cubic a b c e (pos i))
       → (pos (Q halfBreadths p (waterlineOf r)) ≡ area a b c e (pos (p .n))) × (rowIn after r .area ≡ p .s * Q halfBreadths p (waterlineOf r) / 12)
+  -- of change request 13: a hull whose half-breadths are such a polynomial in station and in waterline number gets its exact volume, before rounding, in every row
+  pub hulls-get-their-volumes : ExactVolumes
   -- "What the writer writes, the reader reads back as the same numbers."
   pub what-is-written-is-read-back : {p : Particulars} {h : List ℕ} {i t : List ℤ} {room roomLeft : List ℕ} {count : ℕ} {h₀ h′ : List ℕ} {i₀ i′ t₀ t′ : List ℤ} {answer : Read}
       → Writes p h i t room roomLeft (Wrote count) → RoomForAnyFile h₀ i₀ t₀ → Reads (take count roomLeft) h₀ h′ i₀ i′ t₀ t′ answer

@@ -1,5 +1,6 @@
 -- The sums of a row as curves, by stations and by waterlines.
 --     Q-is, X-is, C-is                     the sums over a waterline are curves over its stations
+--     Sx-over                              Sx over stations and waterlines, each half-breadth times its station number
 --     S-along, Sz-along, Sx-along          the sums of a row are curves over its stations, through their areas and height moments
 --     S-is, Sz-is, Sx-is                   and curves over its waterlines, through Q, Q·j and X
 -- Assumes nothing.
@@ -50,6 +51,10 @@ module _ (table : List ℕ) (p : Particulars) where
         sum-same natural (p .n + 1) _ _ (λ i l. sum-same natural (k + 1) _ _ (λ j l. mul-assoc (multiplier (p .n) i * multiplier k j) (halfBreadth table p i j) (f i j)))
         ∙ by-stations (p .n) k (λ i j. halfBreadth table p i j * f i j)
 
+    pub Sx-over : Sx table p k ≡ curve (p .n) (λ i. curve k (λ j. halfBreadth table p i j * i))
+    unfolding Sx
+    Sx-over = timed (λ i j. i)
+
     -- ---- along the stations
     pub S-along : S table p k ≡ curve (p .n) (areaAt table p k)
     unfolding S term areaAt
@@ -60,8 +65,8 @@ module _ (table : List ℕ) (p : Particulars) where
     Sz-along = timed (λ i j. j)
 
     pub Sx-along : Sx table p k ≡ curve (p .n) (λ i. areaAt table p k i * i)
-    unfolding Sx areaAt
-    Sx-along = timed (λ i j. i) ∙ curve-same (p .n) _ _ (λ i l. curve-by k (λ j. halfBreadth table p i j) i)
+    unfolding areaAt
+    Sx-along = Sx-over ∙ curve-same (p .n) _ _ (λ i l. curve-by k (λ j. halfBreadth table p i j) i)
 
     -- ---- up the waterlines
     pub S-is : S table p k ≡ curve k (Q table p)
@@ -76,5 +81,5 @@ module _ (table : List ℕ) (p : Particulars) where
         ∙ curve-same k _ _ (λ j l. curve-by (p .n) (λ i. halfBreadth table p i j) j ∙ ap (λ q. q * j) (sym (Q-is j)))
 
     pub Sx-is : Sx table p k ≡ curve k (X table p)
-    unfolding Sx X
-    Sx-is = timed (λ i j. i) ∙ curve-swap (p .n) k (λ i j. halfBreadth table p i j * i)
+    unfolding X
+    Sx-is = Sx-over ∙ curve-swap (p .n) k (λ i j. halfBreadth table p i j * i)

@@ -19,6 +19,7 @@ pub mod Ranged
 pub mod Reading
 pub mod Usable
 pub mod MadeRows
+pub mod ByFormula
 pub mod Unique
 pub mod Shown
 pub mod Numbered

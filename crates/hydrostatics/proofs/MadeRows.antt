@@ -1,6 +1,7 @@
 -- What stands in the lent table under a success: the paper's row at each waterline from number 2 up.
 --     made-rows        how many rows, and each of them
---     made-area        the waterplane area of one of them; the hull has two intervals of length or more
+--     made-length      the hull has two intervals of length or more
+--     made-area        and the waterplane area of one of the rows
 -- Assumes nothing.
 use mathlib.Core.Path.{_≡_, ap, _∙_}
 use mathlib.Core.List.{List}
@@ -33,10 +34,10 @@ made-rows {table} {p} {rows} {after} {count} made =
           (row-in (numbers-part (rowOf table p) (rowsOver (p .m)) r _ (omega arith))),
     ))
 
+pub made-length : {table : List ℕ} {p : Particulars} {rows after : List ℕ} {count : ℕ} → MakesRows table p rows after (Made count) → 2 ≤ p .n
+made-length {table} {p} {rows} made =
+    counted (rowsOf table p (length rows)) (made .answer-is) (λ numbers so e. answered-rows (length rows) so .hull .complete .particulars .n-least)
+
 pub made-area : {table : List ℕ} {p : Particulars} {rows after : List ℕ} {count : ℕ} → MakesRows table p rows after (Made count) → (r : ℕ) → r < count → (2 ≤ p .n) × (rowIn after r .area ≡ p .s * Q table p (waterlineOf r) / 12)
 unfolding rowFrom
-made-area {table} {p} {rows} made r h =
-    counted (rowsOf table p (length rows)) (made .answer-is) (λ numbers so e. (
-      answered-rows (length rows) so .hull .complete .particulars .n-least,
-      ap (λ row. row .area) (made-rows made .1 r h),
-    ))
+made-area made r h = (made-length made, ap (λ row. row .area) (made-rows made .1 r h))

@@ -4,13 +4,13 @@
 -- Assumes nothing.
 use Prim.Native.Nat.{ℕ, zero, suc, _+_, _-_, _*_, _^_, _≤_, _<_}
 use mathlib.Core.Bool.{Bool, true, _&&_}
-use mathlib.Core.Path.{_≡_, refl, sym, subst}
+use mathlib.Core.Path.{_≡_, refl}
 use mathlib.Core.List.{List, [], _∷_}
 use native.Mathlib.Omega.{arith}
 use borrow.Author.Tests.{leb-true, ltb-true}
 use lib.Dec.{leb, ltb}
 use lib.ListN.{length, getD}
-use Rattle.arithmetic.proofs.Tests.{both, same-or-other}
+use Rattle.arithmetic.proofs.Tests.{both, each, each-at}
 use Rattle.levers.specs.SineRule.{Near, SinesRight}
 use Rattle.levers.specs.Sines.{sines, sine, million}
 
@@ -22,11 +22,6 @@ rising [] = true
 
 near : ℕ → ℕ → ℕ → Bool
 near width a b = leb a (b + width) && leb b (a + width)
-
--- a test at so many angles from one on
-each : (ℕ → Bool) → ℕ → ℕ → Bool
-each f from zero = true
-each f from (suc count) = f from && each f (suc from) count
 
 -- angle number i is of 5·i degrees: 90° − 2θ is number 18 − 2·i, 90° − θ number 18 − i, and 3θ number 3·i
 double : ℕ → Bool
@@ -52,13 +47,6 @@ rising-at (a ∷ b ∷ rest) e zero h = ltb-true a b (both (ltb a b) (rising (b 
 rising-at (a ∷ b ∷ rest) e (suc i) h = rising-at (b ∷ rest) (both (ltb a b) (rising (b ∷ rest)) e .1) i (omega arith)
 rising-at (a ∷ []) e i h = absurd (omega arith)
 rising-at [] e i h = absurd (omega arith)
-
-each-at : (f : ℕ → Bool) (from count : ℕ) → each f from count ≡ true → (i : ℕ) → from ≤ i → i < from + count → f i ≡ true
-unfolding each
-each-at f from zero e i h k = absurd (omega arith)
-each-at f from (suc count) e i h k =
-    let so = both (f from) (each f (suc from) count) e in
-    same-or-other i from (λ is. subst (λ i. f i ≡ true) (sym is) (so .0)) (λ other. each-at f (suc from) count (so .1) i (omega arith) (omega arith))
 
 near-told : (width a b : ℕ) → near width a b ≡ true → Near width a b
 unfolding near

@@ -4,20 +4,21 @@
 --     curveℤ-plus, curveℤ-times    the same for ordinates of either sign
 --     curve-mono                   ordinates never larger, a sum never larger
 --     curve-swap                   over a surface, either way first
+--     curveℤ-sum                   of a sum of curves it is the sum
 --     pos-curve                    the same over numbers of either sign
 --     curveℤ-less                  of differences it is the difference
 --     curve-few                    nothing over fewer than two intervals, for which there is no rule
 -- How large it is, and what it is for a cubic: `Moments`. Assumes nothing.
 use mathlib.Core.Path.{_≡_, refl, sym, ap, ap₂, _∙_}
 use Prim.Native.Nat.{ℕ, zero, suc, _+_, _*_, _≤_, _<_}
-use native.Mathlib.Nat.{mul-left-comm, mul-le-mul-left}
+use native.Mathlib.Nat.{mul-le-mul-left}
 use native.Mathlib.Omega.{arith}
 use lib.IntN.{ℤ, pos, negsuc, _+ℤ_, _-ℤ_, _*ℤ_}
-use Rattle.arithmetic.specs.Sum.{sumBy, sumTo}
+use Rattle.arithmetic.specs.Sum.{sumBy, sumToℤ}
 use Rattle.arithmetic.proofs.Algebra.{natural}
 use Rattle.arithmetic.proofs.Integer.{integer, solveℤ}
 use Rattle.arithmetic.proofs.Polynomial.{con, _:+_, _:*_, :-_}
-use Rattle.arithmetic.proofs.Sums.{sum-same, times-sum, weighted-plus, weighted-times, sum-swap, sum-mono}
+use Rattle.arithmetic.proofs.Sums.{sum-same, weighted-plus, weighted-times, weighted-sum, sum-mono}
 use Rattle.simpson.specs.Multipliers.{multiplier}
 use Rattle.arithmetic.proofs.Whole.{pos-sum}
 use Rattle.simpson.specs.Curve.{curve, curveℤ}
@@ -54,12 +55,12 @@ module _ (n : ℕ) where
 pub curve-swap : (n m : ℕ) (y : ℕ → ℕ → ℕ) → curve n (λ i. curve m (λ j. y i j)) ≡ curve m (λ j. curve n (λ i. y i j))
 unfolding curve
 curve-swap n m y =
-    let term : ℕ → ℕ → ℕ = λ i j. multiplier n i * (multiplier m j * y i j) in
-    sum-same natural (n + 1) _ (λ i. sumTo (m + 1) (term i)) (λ i l. sym (times-sum natural (m + 1) (multiplier n i) (λ j. multiplier m j * y i j)))
-    ∙ sum-swap natural (n + 1) (m + 1) term
-    ∙ sum-same natural (m + 1) _ (λ j. multiplier m j * sumTo (n + 1) (λ i. multiplier n i * y i j))
-    (λ j l. sum-same natural (n + 1) _ _ (λ i l. mul-left-comm (multiplier n i) (multiplier m j) (y i j))
-    ∙ times-sum natural (n + 1) (multiplier m j) (λ i. multiplier n i * y i j))
+    weighted-sum natural (n + 1) (m + 1) (multiplier n) (λ i j. multiplier m j * y i j)
+    ∙ sum-same natural (m + 1) _ _ (λ j l. weighted-times natural (n + 1) (multiplier n) (multiplier m j) (λ i. y i j))
+
+pub curveℤ-sum : (n m : ℕ) (y : ℕ → ℕ → ℤ) → curveℤ n (λ i. sumToℤ m (λ a. y i a)) ≡ sumToℤ m (λ a. curveℤ n (λ i. y i a))
+unfolding curveℤ
+curveℤ-sum n m y = weighted-sum integer (n + 1) m (λ i. pos (multiplier n i)) y
 
 pub pos-curve : (n : ℕ) (y : ℕ → ℕ) → pos (curve n y) ≡ curveℤ n (λ i. pos (y i))
 unfolding curve curveℤ

@@ -4,5 +4,6 @@ pub mod Curves
 pub mod Front
 pub mod Exact
 pub mod Moments
+pub mod Volumes
 pub mod Sweep
 pub mod Running

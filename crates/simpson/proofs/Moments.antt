@@ -1,8 +1,8 @@
 -- The sum over a cubic with whole coefficients, and what follows of the multipliers.
 --     curve-exact                        a curve whose ordinates are those of a cubic with coefficients of either sign has its area
 --     curve-of-cubic                     24an + 12bn² + 8cn³ + 6en⁴
---     curve-of-one, curve-of-place       two of its four instances: 24n, 12n²
---     curve-of-square, curve-of-cube     and the other two: 8n³, 6n⁴
+--     curve-of-power                     of iᵃ, a ≤ 3, it is 24 nᵃ⁺¹ / (a + 1)
+--     curve-of-one                       24n
 --     answer-exact                       so is the sum that the call answers
 --     curve-le                           a bound on each ordinate bounds the sum, by the rectangle's area
 --     ordinate-le                        no ordinate is above the sum
@@ -11,13 +11,14 @@ use mathlib.Core.Path.{_≡_, refl, ap, _∙_}
 use mathlib.Core.Bool.{Bool, true, false}
 use mathlib.Core.List.{List}
 use Prim.Native.Nat.{ℕ, zero, suc, _+_, _-_, _*_, _^_, _≤_, _<_}
-use native.Mathlib.Nat.{le-trans, mul-le-mul-right}
+use native.Mathlib.Nat.{le-trans, mul-le-mul-right, pow-zero}
 use native.Mathlib.Omega.{arith}
 use borrow.Author.Tests.{ltb-false}
 use lib.Dec.{ltb}
 use lib.IntN.{ℤ, pos}
 use lib.ListN.{length, getD}
 use Rattle.arithmetic.specs.Choice.{if_then_else_}
+use Rattle.arithmetic.proofs.Ring.{pow1}
 use Rattle.arithmetic.proofs.Sums.{term-le-sum}
 use Rattle.simpson.specs.Multipliers.{multiplier}
 use Rattle.simpson.specs.Curve.{curve, curveSumOf}
@@ -39,17 +40,19 @@ module _ (n : ℕ) (h : 2 ≤ n) where
       (curve-exact n _ (pos a) (pos b) (pos c) (pos e) h (λ i l. signed i)
       ∙ rw (← pos-pow n 2, ← pos-pow n 3, ← pos-pow n 4))
 
+  -- ordinates that are a cubic's
+  as-cubic : (y : ℕ → ℕ) (a b c e : ℕ) → ((i : ℕ) → y i ≡ a + b * i + c * i ^ 2 + e * i ^ 3) → curve n y ≡ 24 * a * n + 12 * b * n ^ 2 + 8 * c * n ^ 3 + 6 * e * n ^ 4
+  as-cubic y a b c e is = curve-same n _ _ (λ i l. is i) ∙ curve-of-cubic a b c e
+
+  pub curve-of-power : (a : ℕ) → a ≤ 3 → (a + 1) * curve n (λ i. i ^ a) ≡ 24 * n ^ (a + 1)
+  curve-of-power zero l = omega (arith, pow1 n, as-cubic (λ i. i ^ 0) 1 0 0 0 (λ i. omega (arith, pow-zero i)))
+  curve-of-power (suc zero) l = omega (arith, as-cubic (λ i. i ^ 1) 0 1 0 0 (λ i. omega (arith, pow1 i)))
+  curve-of-power (suc (suc zero)) l = omega (arith, as-cubic (λ i. i ^ 2) 0 0 1 0 (λ i. omega arith))
+  curve-of-power (suc (suc (suc zero))) l = omega (arith, as-cubic (λ i. i ^ 3) 0 0 0 1 (λ i. omega arith))
+  curve-of-power (suc (suc (suc (suc a)))) l = absurd (omega arith)
+
   pub curve-of-one : curve n (λ i. 1) ≡ 24 * n
-  curve-of-one = curve-same n _ _ (λ i l. omega arith) ∙ curve-of-cubic 1 0 0 0 ∙ omega arith
-
-  pub curve-of-place : curve n (λ i. i) ≡ 12 * n ^ 2
-  curve-of-place = curve-same n _ _ (λ i l. omega arith) ∙ curve-of-cubic 0 1 0 0 ∙ omega arith
-
-  pub curve-of-square : curve n (λ i. i ^ 2) ≡ 8 * n ^ 3
-  curve-of-square = curve-same n _ _ (λ i l. omega arith) ∙ curve-of-cubic 0 0 1 0 ∙ omega arith
-
-  pub curve-of-cube : curve n (λ i. i ^ 3) ≡ 6 * n ^ 4
-  curve-of-cube = curve-same n _ _ (λ i l. omega arith) ∙ curve-of-cubic 0 0 0 1 ∙ omega arith
+  curve-of-one = omega (arith, as-cubic (λ i. 1) 1 0 0 0 (λ i. omega arith))
 
 pub curve-le : (n b : ℕ) (y : ℕ → ℕ) → ((i : ℕ) → i ≤ n → y i ≤ b) → curve n y ≤ b * (24 * n)
 curve-le zero b y h = omega (arith, curve-few 0 y (omega arith))
