@@ -67,55 +67,44 @@ at-stations (y ∷ rest) = replicate 6 y ++ at-stations rest
 abbrev at-waterlines : List ℕ → List ℕ
 at-waterlines ys = ys ++ ys ++ ys ++ ys ++ ys ++ ys
 
-fourth-along : Missed (power 4 0) S volume
+four-missed : Missed (power 4 0) S volume × Missed (power 0 4) S volume × Missed (power 3 0) Sx longitudinalMoment × Missed (power 0 3) Sz verticalMoment
 unfolding five given-test given-at each eqℤ halfBreadth termwise monomial sumBy multiplier firstRule secondRule later term S Sx Sz Q C rowFrom rowsBy rowsUpTo displacementBefore badParticularBy tooLong firstOutside outsideFrom within andThen if_then_else_
-fourth-along =
-    missed (power 4 0) S volume (at-stations (0 ∷ 1 ∷ 16 ∷ 81 ∷ 256 ∷ 625 ∷ []))
-    (1_000 ∷ 3_130 ∷ 10_465 ∷ 500 ∷ 59 ∷ 559 ∷ 3_130_833
-    ∷ 1_500 ∷ 4_696 ∷ 10_465 ∷ 750 ∷ 39 ∷ 789 ∷ 3_130_833
-    ∷ 2_000 ∷ 6_261 ∷ 10_465 ∷ 1_000 ∷ 29 ∷ 1_029 ∷ 3_130_833
-    ∷ 2_500 ∷ 7_827 ∷ 10_465 ∷ 1_250 ∷ 23 ∷ 1_273 ∷ 3_130_833 ∷ [])
-    refl refl refl refl
-
-fourth-up : Missed (power 0 4) S volume
-unfolding five given-test given-at each eqℤ halfBreadth termwise monomial sumBy multiplier firstRule secondRule later term S Sx Sz Q C rowFrom rowsBy rowsUpTo displacementBefore badParticularBy tooLong firstOutside outsideFrom within andThen if_then_else_
-fourth-up =
-    missed (power 0 4) S volume (at-waterlines (0 ∷ 1 ∷ 16 ∷ 81 ∷ 256 ∷ 625 ∷ []))
-    (1_000 ∷ 83 ∷ 6_250 ∷ 900 ∷ 0 ∷ 900 ∷ 400_000
-    ∷ 1_500 ∷ 618 ∷ 6_250 ∷ 1_295 ∷ 7 ∷ 1_302 ∷ 2_025_000
-    ∷ 2_000 ∷ 2_566 ∷ 6_250 ∷ 1_675 ∷ 54 ∷ 1_729 ∷ 6_400_000
-    ∷ 2_500 ∷ 7_827 ∷ 6_250 ∷ 2_093 ∷ 259 ∷ 2_353 ∷ 15_625_000 ∷ [])
-    refl refl refl refl
-
-third-along : Missed (power 3 0) Sx longitudinalMoment
-unfolding five given-test given-at each eqℤ halfBreadth termwise monomial sumBy multiplier firstRule secondRule later term S Sx Sz Q C rowFrom rowsBy rowsUpTo displacementBefore badParticularBy tooLong firstOutside outsideFrom within andThen if_then_else_
-third-along =
-    missed (power 3 0) Sx longitudinalMoment (at-stations (0 ∷ 1 ∷ 8 ∷ 27 ∷ 64 ∷ 125 ∷ []))
-    (1_000 ∷ 781 ∷ 10_018 ∷ 500 ∷ 2 ∷ 502 ∷ 781_250
-    ∷ 1_500 ∷ 1_171 ∷ 10_018 ∷ 750 ∷ 1 ∷ 751 ∷ 781_250
-    ∷ 2_000 ∷ 1_562 ∷ 10_018 ∷ 1_000 ∷ 1 ∷ 1_001 ∷ 781_250
-    ∷ 2_500 ∷ 1_953 ∷ 10_018 ∷ 1_250 ∷ 0 ∷ 1_250 ∷ 781_250 ∷ [])
-    refl refl refl refl
-
-third-up : Missed (power 0 3) Sz verticalMoment
-unfolding five given-test given-at each eqℤ halfBreadth termwise monomial sumBy multiplier firstRule secondRule later term S Sx Sz Q C rowFrom rowsBy rowsUpTo displacementBefore badParticularBy tooLong firstOutside outsideFrom within andThen if_then_else_
-third-up =
-    missed (power 0 3) Sz verticalMoment (at-waterlines (0 ∷ 1 ∷ 8 ∷ 27 ∷ 64 ∷ 125 ∷ []))
-    (1_000 ∷ 50 ∷ 6_250 ∷ 833 ∷ 0 ∷ 833 ∷ 200_000
-    ∷ 1_500 ∷ 253 ∷ 6_250 ∷ 1_222 ∷ 0 ∷ 1_222 ∷ 675_000
-    ∷ 2_000 ∷ 800 ∷ 6_250 ∷ 1_604 ∷ 2 ∷ 1_606 ∷ 1_600_000
-    ∷ 2_500 ∷ 1_953 ∷ 6_250 ∷ 2_003 ∷ 8 ∷ 2_012 ∷ 3_125_000 ∷ [])
-    refl refl refl refl
+four-missed = (
+  missed (power 4 0) S volume (at-stations (0 ∷ 1 ∷ 16 ∷ 81 ∷ 256 ∷ 625 ∷ []))
+      (1_000 ∷ 3_130 ∷ 10_465 ∷ 500 ∷ 59 ∷ 559 ∷ 3_130_833
+      ∷ 1_500 ∷ 4_696 ∷ 10_465 ∷ 750 ∷ 39 ∷ 789 ∷ 3_130_833
+      ∷ 2_000 ∷ 6_261 ∷ 10_465 ∷ 1_000 ∷ 29 ∷ 1_029 ∷ 3_130_833
+      ∷ 2_500 ∷ 7_827 ∷ 10_465 ∷ 1_250 ∷ 23 ∷ 1_273 ∷ 3_130_833 ∷ [])
+      refl refl refl refl,
+  missed (power 0 4) S volume (at-waterlines (0 ∷ 1 ∷ 16 ∷ 81 ∷ 256 ∷ 625 ∷ []))
+      (1_000 ∷ 83 ∷ 6_250 ∷ 900 ∷ 0 ∷ 900 ∷ 400_000
+      ∷ 1_500 ∷ 618 ∷ 6_250 ∷ 1_295 ∷ 7 ∷ 1_302 ∷ 2_025_000
+      ∷ 2_000 ∷ 2_566 ∷ 6_250 ∷ 1_675 ∷ 54 ∷ 1_729 ∷ 6_400_000
+      ∷ 2_500 ∷ 7_827 ∷ 6_250 ∷ 2_093 ∷ 259 ∷ 2_353 ∷ 15_625_000 ∷ [])
+      refl refl refl refl,
+  missed (power 3 0) Sx longitudinalMoment (at-stations (0 ∷ 1 ∷ 8 ∷ 27 ∷ 64 ∷ 125 ∷ []))
+      (1_000 ∷ 781 ∷ 10_018 ∷ 500 ∷ 2 ∷ 502 ∷ 781_250
+      ∷ 1_500 ∷ 1_171 ∷ 10_018 ∷ 750 ∷ 1 ∷ 751 ∷ 781_250
+      ∷ 2_000 ∷ 1_562 ∷ 10_018 ∷ 1_000 ∷ 1 ∷ 1_001 ∷ 781_250
+      ∷ 2_500 ∷ 1_953 ∷ 10_018 ∷ 1_250 ∷ 0 ∷ 1_250 ∷ 781_250 ∷ [])
+      refl refl refl refl,
+  missed (power 0 3) Sz verticalMoment (at-waterlines (0 ∷ 1 ∷ 8 ∷ 27 ∷ 64 ∷ 125 ∷ []))
+      (1_000 ∷ 50 ∷ 6_250 ∷ 833 ∷ 0 ∷ 833 ∷ 200_000
+      ∷ 1_500 ∷ 253 ∷ 6_250 ∷ 1_222 ∷ 0 ∷ 1_222 ∷ 675_000
+      ∷ 2_000 ∷ 800 ∷ 6_250 ∷ 1_604 ∷ 2 ∷ 1_606 ∷ 1_600_000
+      ∷ 2_500 ∷ 1_953 ∷ 6_250 ∷ 2_003 ∷ 8 ∷ 2_012 ∷ 3_125_000 ∷ [])
+      refl refl refl refl,
+)
 
 pub exact-volumes : ExactVolumes
 exact-volumes = record {
   integrals-are-whole = λ a b l m. (factor-whole a b l m, monomial-cleared a b l m);
-  volumes-are-exact = S-exact;
-  longitudinal-moments-are-exact = Sx-exact;
-  vertical-moments-are-exact = Sz-exact;
+  volumes-are-exact = λ halfBreadths p f k long deep given along up. S-exact halfBreadths p f k long deep given (omega arith) (omega arith);
+  longitudinal-moments-are-exact = λ halfBreadths p f k long deep given along up. Sx-exact halfBreadths p f k long deep given (omega arith) (omega arith);
+  vertical-moments-are-exact = λ halfBreadths p f k long deep given along up. Sz-exact halfBreadths p f k long deep given (omega arith) (omega arith);
   displacements-are-exact = made-displacement;
   lcbs-are-exact = made-lcb;
   kbs-are-exact = made-kb;
-  fourth-degree-fails = (fourth-along, fourth-up);
-  third-degree-moments-fail = (third-along, third-up);
+  fourth-degree-fails = (four-missed .0, four-missed .1);
+  third-degree-moments-fail = (four-missed .2, four-missed .3);
 }

@@ -5,5 +5,6 @@ pub mod Front
 pub mod Exact
 pub mod Moments
 pub mod Volumes
+pub mod Figures
 pub mod Sweep
 pub mod Running

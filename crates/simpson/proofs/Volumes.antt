@@ -1,20 +1,19 @@
 -- Exact volumes: where half-breadths are given by a formula, the sum over a curve of curves is 576 times its double integral.
 --     factor-whole, monomial-cleared      a monomial's integral of third degree or less, cleared by 576: nothing is rounded
 --     volume-exact                        to the third degree either way
---     longitudinalMoment-exact                 each half-breadth times its station number: to the second degree in it
---     verticalMoment-exact               and times its waterline number
+--     longitudinalMoment-exact            each half-breadth times its station number: to the second degree in that
+--     verticalMoment-exact                each times its waterline number: to the second degree in that
 -- Once over both counts, by the exponents that each monomial comes to (`powers-exact`). Assumes nothing.
 use mathlib.Core.Path.{_≡_, refl, sym, ap, ap₂, _∙_}
 use Prim.Native.Nat.{ℕ, zero, suc, _+_, _*_, _/_, _^_, _≤_, _<_}
 use native.Mathlib.Nat.{mul-comm, mul-assoc, mul-right-comm, mul-mul-mul-comm, mul-pos, pow-suc, div-eq-of-eq-mul-left}
 use native.Mathlib.Numerals.{add-one}
 use native.Mathlib.Omega.{arith}
-use lib.IntN.{ℤ, pos, _*ℤ_}
-use Rattle.arithmetic.specs.Sum.{sumToℤ}
+use lib.IntN.{pos, _*ℤ_}
 use Rattle.arithmetic.proofs.Integer.{integer, *ℤ-assoc}
 use Rattle.arithmetic.proofs.Sums.{sum-same, sum-times}
 use Rattle.simpson.specs.Curve.{curve, curveℤ}
-use Rattle.simpson.specs.Formula.{Formula, termwise, valueAt, GivenBy, monomial, volume, longitudinalMoment, verticalMoment}
+use Rattle.simpson.specs.Formula.{Formula, termwise, GivenBy, monomial, volume, longitudinalMoment, verticalMoment}
 use Rattle.simpson.proofs.Curves.{curve-times, curveℤ-same, curveℤ-times, curveℤ-sum, pos-curve}
 use Rattle.simpson.proofs.Moments.{curve-of-power}
 
@@ -23,25 +22,24 @@ module _ (f : Formula) where
   termwise-same : (g h : ℕ → ℕ → ℕ) → ((a b : ℕ) → a ≤ f .stationDegree → b ≤ f .waterlineDegree → g a b ≡ h a b) → termwise f g ≡ termwise f h
   unfolding termwise
   termwise-same g h is =
-      sum-same integer (f .stationDegree + 1) _ _ (λ a l.
-      sum-same integer (f .waterlineDegree + 1) _ _ (λ b m.
+      sum-same integer _ _ _ (λ a l. sum-same integer _ _ _ (λ b m.
       ap (λ v. f .coefficient a b *ℤ pos v) (is a b (omega arith) (omega arith))))
 
   termwise-times : (g : ℕ → ℕ → ℕ) (v : ℕ) → termwise f g *ℤ pos v ≡ termwise f (λ a b. g a b * v)
   unfolding termwise
   termwise-times g v =
-      sym (sum-times integer (f .stationDegree + 1) (λ a. sumToℤ (f .waterlineDegree + 1) (λ b. f .coefficient a b *ℤ pos (g a b))) (pos v))
-      ∙ sum-same integer (f .stationDegree + 1) _ _ (λ a l.
-      sym (sum-times integer (f .waterlineDegree + 1) (λ b. f .coefficient a b *ℤ pos (g a b)) (pos v))
-      ∙ sum-same integer (f .waterlineDegree + 1) _ _ (λ b m. *ℤ-assoc (f .coefficient a b) (pos (g a b)) (pos v)))
+      sym (sum-times integer _ _ (pos v))
+      ∙ sum-same integer _ _ _ (λ a l.
+      sym (sum-times integer _ (λ b. f .coefficient a b *ℤ pos (g a b)) (pos v))
+      ∙ sum-same integer _ _ _ (λ b m. *ℤ-assoc (f .coefficient a b) (pos (g a b)) (pos v)))
 
   curve-termwise : (n : ℕ) (g : ℕ → ℕ → ℕ → ℕ) → curveℤ n (λ i. termwise f (g i)) ≡ termwise f (λ a b. curve n (λ i. g i a b))
   unfolding termwise
   curve-termwise n g =
-      curveℤ-sum n (f .stationDegree + 1) (λ i a. sumToℤ (f .waterlineDegree + 1) (λ b. f .coefficient a b *ℤ pos (g i a b)))
-      ∙ sum-same integer (f .stationDegree + 1) _ _ (λ a l.
-      curveℤ-sum n (f .waterlineDegree + 1) (λ i b. f .coefficient a b *ℤ pos (g i a b))
-      ∙ sum-same integer (f .waterlineDegree + 1) _ _ (λ b m.
+      curveℤ-sum n _ _
+      ∙ sum-same integer _ _ _ (λ a l.
+      curveℤ-sum n _ (λ i b. f .coefficient a b *ℤ pos (g i a b))
+      ∙ sum-same integer _ _ _ (λ b m.
       curveℤ-times n (f .coefficient a b) (λ i. pos (g i a b)) ∙ ap (λ v. f .coefficient a b *ℤ v) (sym (pos-curve n (λ i. g i a b)))))
 
 -- ---- a monomial
