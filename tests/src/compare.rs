@@ -1,6 +1,7 @@
 //! Compares the library with the own calculation on generated cases, and counts what came out of them.
 
 mod engines;
+mod formulas;
 mod half_breadths;
 mod history;
 mod hoppers;
@@ -15,6 +16,9 @@ mod refused_tests;
 mod round_trip;
 mod settled;
 mod spellings;
+
+#[cfg(test)]
+mod trial_formulas;
 
 use crate::calculation::{LIBRARY, PEER};
 use crate::generate::{Call, Case};
@@ -53,6 +57,7 @@ pub fn replay(seed: u64, number: u64) -> bool {
         Case::Call(call) => {
             call.by_straight_line().iter().chain([call]).for_each(show);
             call.rows_by_both_engines().iter().flatten().for_each(show);
+            call.rows_by_formula().iter().for_each(show);
             call.with_middle_line_moved().iter().flatten().for_each(show);
             call.with_test_altered().iter().flatten().for_each(show);
             call.with_kg_lowered().iter().flatten().for_each(show);
@@ -78,7 +83,7 @@ fn show(call: &Call) {
 }
 
 /// Examines each call of a case; the steps of a history must also be the list's, the two readings of KM must fit, both
-/// engines must make the same of a hull, a surface must be the same with its middle line moved, a light ship must fit
+/// engines must make the same of a hull, a hull by formula must have its integrals, a surface must be the same with its middle line moved, a light ship must fit
 /// its test altered, and a profile its KG lowered.
 fn examine(case: &Case, wrapped: bool, outcomes: &mut Outcomes) -> Result<(), String> {
     match case {
@@ -92,6 +97,9 @@ fn examine(case: &Case, wrapped: bool, outcomes: &mut Outcomes) -> Result<(), St
                 let by_sections = examine_call(&sections, wrapped)?;
                 outcome.engines = engines::examine(&examine_call(&waterplanes, wrapped)?, &by_sections)?;
                 outcomes.add(&Outcome::of(&sections, &by_sections));
+            }
+            if let Some(by_formula) = call.rows_by_formula() {
+                outcome.formula = formulas::formula(&by_formula, &examine_call(&by_formula, wrapped)?);
             }
             for (side, moved) in call.with_middle_line_moved().into_iter().flatten().enumerate() {
                 hoppers::same_surface(&library, &examine_call(&moved, wrapped)?)?;
@@ -142,6 +150,7 @@ fn examine_call(call: &Call, wrapped: bool) -> Result<Observation, String> {
     }
     if library.number == 0 {
         round_trip::examine(call, &library)?;
+        formulas::examine(call, &library)?;
         inclining::examine(call, &library)?;
         profiles::examine(call, &library)?;
     }

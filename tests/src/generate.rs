@@ -3,6 +3,7 @@
 mod damaged_profiles;
 mod damaged_tests;
 mod edges;
+mod formulas;
 mod hoppers;
 mod hulls;
 mod inclining;
@@ -28,7 +29,7 @@ use crate::calls::{Engine, Reading, Summary, Tally};
 use crate::hopper::Hopper;
 use crate::inclining::Inclining;
 use crate::peer;
-use crate::peer::ranges::{half_breadth_count, ANGLES, HALF_BREADTH, ITEM, PARTICULARS, ROW, TANK};
+use crate::peer::ranges::{half_breadth_count, try_particulars, ANGLES, HALF_BREADTH, ITEM, PARTICULARS, ROW, TANK};
 use crate::peer::ranges::{HALF_BREADTH_ROOM, ITEM_ROOM, ROW_ROOM, SHEET_ROOM, TANK_ROOM};
 use crate::peer::ranges::{MOST_INTERVALS, MOST_WATERLINES};
 use crate::peer::tally::SLOTS;
@@ -128,16 +129,32 @@ impl Call {
         }
     }
 
-    /// The rows of the call's hull by each engine: of its own, or of a file's, where its text is read.
+    /// The call's hull, with room for its rows: its own, or a file's, where its text is read.
+    fn hull(&self) -> Option<(Hull, usize)> {
+        let of_file = |FileNumbers { particulars, half_breadths, .. }| (Hull { particulars, half_breadths }, ROW_ROOM);
+        match self {
+            Call::Report { text, .. } | Call::Read { text, .. } => FileNumbers::of_text(text).map(of_file),
+            Call::Write { numbers, .. } => Some(of_file(numbers.clone())),
+            Call::Rows { particulars, half_breadths, room, .. } => {
+                Some((Hull { particulars: *particulars, half_breadths: half_breadths.clone() }, *room))
+            }
+            _ => None,
+        }
+    }
+
+    /// The rows of the call's hull by each engine.
     pub fn rows_by_both_engines(&self) -> Option<[Call; 2]> {
-        let of_file = |FileNumbers { particulars, half_breadths, .. }| (particulars, half_breadths, ROW_ROOM);
-        let (particulars, half_breadths, room) = match self {
-            Call::Report { text, .. } | Call::Read { text, .. } => of_file(FileNumbers::of_text(text)?),
-            Call::Write { numbers, .. } => of_file(numbers.clone()),
-            Call::Rows { particulars, half_breadths, room, .. } => (*particulars, half_breadths.clone(), *room),
-            _ => return None,
-        };
+        let (Hull { particulars, half_breadths }, room) = self.hull()?;
         Some(Engine::BOTH.map(|engine| Call::Rows { engine, particulars, half_breadths: half_breadths.clone(), room }))
+    }
+
+    /// The rows of a hull with the particulars of the call's own, where they are in range, and half-breadths by formula.
+    pub fn rows_by_formula(&self) -> Option<Call> {
+        let (Hull { particulars, half_breadths }, _) = self.hull()?;
+        try_particulars(&particulars).ok()?;
+        let random = &mut Random::for_numbers(&half_breadths);
+        let half_breadths = formulas::half_breadths(random, &particulars);
+        Some(Call::Rows { engine: random.pick(&Engine::BOTH), particulars, half_breadths, room: ROW_ROOM })
     }
 
     /// The call's surface, where it is answered, with its middle line as far to port and as far to starboard as may be.

@@ -1,6 +1,7 @@
 //! Counts of outcomes by call, and what the papers let come out that never did.
 
 use super::engines::ENGINES;
+use super::formulas::FORMULAS;
 use super::half_breadths::{half_breadths, HALF_BREADTHS};
 use super::hoppers::{refused_surface, surface, MIDDLE_LINES, REFUSED_SURFACES, SURFACES};
 use super::inclining::{inclining, light_ship, ALTERATIONS, INCLININGS, LIGHT_SHIPS};
@@ -132,7 +133,8 @@ const FILLINGS: [&str; 5] = ["empty", "slack", "at 98 per cent", "above it", "fu
 const STATES: [&str; 4] = ["empty", "full", "with another mark than 1", "with something in an empty slot"];
 
 /// What came out of one call: 0 or the refusal's number, how the vessel lies and where it floats where that was found,
-/// what the other reading of KM made of it, what both engines made of its hull, how long that is, which of its
+/// what the other reading of KM made of it, what both engines made of its hull, what a hull by formula with
+/// its particulars is like, how long its own is, which of its
 /// half-breadths it is refused for, how many of the condition's tanks are filled how, in which states the tally was
 /// that a step was answered on, what editors left in the text that was read or in its token that is no number, what a
 /// hopper tank's surface is like or is refused for, and to which sides its middle line was moved, what an inclining
@@ -147,6 +149,7 @@ pub struct Outcome {
     flotation: [bool; FLOTATIONS.len()],
     pub readings: [bool; READINGS.len()],
     pub engines: [bool; ENGINES.len()],
+    pub formula: [bool; FORMULAS.len()],
     lengths: [bool; LENGTHS.len()],
     half_breadths: [bool; HALF_BREADTHS.len()],
     fillings: [u64; FILLINGS.len()],
@@ -180,6 +183,7 @@ impl Outcome {
             flotation: Default::default(),
             readings: Default::default(),
             engines: Default::default(),
+            formula: Default::default(),
             lengths: Default::default(),
             half_breadths: Default::default(),
             fillings: Default::default(),
@@ -300,6 +304,7 @@ pub struct Outcomes {
     engines: [[u64; ENGINES.len()]; CALLS.len()],
     lengths: [[u64; LENGTHS.len()]; CALLS.len()],
     half_breadths: [[u64; HALF_BREADTHS.len()]; CALLS.len()],
+    formulas: [u64; FORMULAS.len()],
     /// Those of the places to be seen that were.
     places: BTreeSet<(usize, usize, usize)>,
     fillings: [u64; FILLINGS.len()],
@@ -337,6 +342,7 @@ impl Outcomes {
         count(&mut self.flotations[call], outcome.flotation);
         count(&mut self.readings[call], outcome.readings);
         count(&mut self.engines[call], outcome.engines);
+        count(&mut self.formulas, outcome.formula);
         count(&mut self.lengths[call], outcome.lengths);
         count(&mut self.half_breadths[call], outcome.half_breadths);
         for (all, here) in self.fillings.iter_mut().zip(outcome.fillings) {
@@ -372,6 +378,7 @@ impl Outcomes {
         print_group(&ENGINES, &self.engines);
         print_group(&LENGTHS, &self.lengths);
         print_group(&HALF_BREADTHS, &self.half_breadths);
+        println!("hulls by formula {}", listed(&FORMULAS, &self.formulas));
         println!("tanks of conditions: {}", listed(&FILLINGS, &self.fillings));
         println!("tallies of answered steps: {}", listed(&STATES, &self.states));
         println!("texts read with {}", listed(&IN_TEXTS, &self.in_texts));
@@ -433,6 +440,7 @@ impl Outcomes {
         for call in CALLS_FOR_ROWS {
             missing.extend(never(CALLS[call], &HALF_BREADTHS, &self.half_breadths[call]));
         }
+        missing.extend(never("hull by formula", &FORMULAS, &self.formulas));
         missing.extend(never("tank", &FILLINGS, &self.fillings));
         missing.extend(never("tally", &STATES, &self.states));
         missing.extend(never("text read", &IN_TEXTS, &self.in_texts));

@@ -19,6 +19,11 @@ impl Random {
         Random { state: mixed(seed.wrapping_add(STEP)) ^ mixed(number.wrapping_mul(STEP)) }
     }
 
+    /// A stream that depends on these numbers alone.
+    pub fn for_numbers(numbers: &[u64]) -> Random {
+        Random { state: numbers.iter().fold(STEP, |state, &number| mixed(state.wrapping_add(STEP) ^ number)) }
+    }
+
     pub fn next(&mut self) -> u64 {
         self.state = self.state.wrapping_add(STEP);
         mixed(self.state)
