@@ -75,13 +75,15 @@ module _ (a b : ℕ) (l : a ≤ 3) (m : b ≤ 3) where
 
   monomial-is : (n k : ℕ) → 2 ≤ n → 2 ≤ k → curve n (λ i. i ^ a) * curve k (λ j. j ^ b) ≡ monomial n k a b
   unfolding monomial
-  monomial-is n k h g =
-      sym (div-eq-of-eq-mul-left some (sym (by-parts (a + 1) (curve n (λ i. i ^ a)) (n ^ (a + 1)) (b + 1) (curve k (λ j. j ^ b)) (k ^ (b + 1)) (curve-of-power n h a l) (curve-of-power k g b m))))
+  monomial-is n k long deep =
+      sym (div-eq-of-eq-mul-left some (sym (by-parts (a + 1) (curve n (λ i. i ^ a)) (n ^ (a + 1)) (b + 1) (curve k (λ j. j ^ b)) (k ^ (b + 1)) (curve-of-power n long a l) (curve-of-power k deep b m))))
 
 -- ---- half-breadths
-module _ (f : Formula) (n k : ℕ) (h : 2 ≤ n) (g : 2 ≤ k) where
+module _ (f : Formula) (n k : ℕ) (long : 2 ≤ n) (deep : 2 ≤ k) where
   -- z is the formula with its exponents a and b become s a and t b
-  powers-exact : (s t : ℕ → ℕ) → ((a : ℕ) → a ≤ f .stationDegree → s a ≤ 3) → ((b : ℕ) → b ≤ f .waterlineDegree → t b ≤ 3) → (z : ℕ → ℕ → ℕ) → ((i j : ℕ) → i ≤ n → j ≤ k → pos (z i j) ≡ termwise f (λ a b. i ^ s a * j ^ t b)) → pos (curve n (λ i. curve k (λ j. z i j))) ≡ termwise f (λ a b. monomial n k (s a) (t b))
+  powers-exact : (s t : ℕ → ℕ) → ((a : ℕ) → a ≤ f .stationDegree → s a ≤ 3) → ((b : ℕ) → b ≤ f .waterlineDegree → t b ≤ 3)
+      → (z : ℕ → ℕ → ℕ) → ((i j : ℕ) → i ≤ n → j ≤ k → pos (z i j) ≡ termwise f (λ a b. i ^ s a * j ^ t b))
+      → pos (curve n (λ i. curve k (λ j. z i j))) ≡ termwise f (λ a b. monomial n k (s a) (t b))
   powers-exact s t low-s low-t z is =
       let up : ℕ → ℕ = λ b. curve k (λ j. j ^ t b) in
       pos-curve n (λ i. curve k (λ j. z i j))
@@ -91,7 +93,7 @@ module _ (f : Formula) (n k : ℕ) (h : 2 ≤ n) (g : 2 ≤ k) where
       ∙ curve-termwise f k (λ j a b. i ^ s a * j ^ t b)
       ∙ termwise-same f _ _ (λ a b l m. curve-times k (i ^ s a) (λ j. j ^ t b) ∙ mul-comm (i ^ s a) (up b)))
       ∙ curve-termwise f n (λ i a b. up b * i ^ s a)
-      ∙ termwise-same f _ _ (λ a b l m. curve-times n (up b) (λ i. i ^ s a) ∙ mul-comm (up b) _ ∙ monomial-is (s a) (t b) (low-s a l) (low-t b m) n k h g)
+      ∙ termwise-same f _ _ (λ a b l m. curve-times n (up b) (λ i. i ^ s a) ∙ mul-comm (up b) _ ∙ monomial-is (s a) (t b) (low-s a l) (low-t b m) n k long deep)
 
   module _ (y : ℕ → ℕ → ℕ) (is : GivenBy f n k y) where
     pub volume-exact : f .stationDegree ≤ 3 → f .waterlineDegree ≤ 3 → pos (curve n (λ i. curve k (λ j. y i j))) ≡ volume f n k
