@@ -99,12 +99,16 @@ four-missed = (
 pub exact-volumes : ExactVolumes
 exact-volumes = record {
   integrals-are-whole = λ a b l m. (factor-whole a b l m, monomial-cleared a b l m);
-  volumes-are-exact = λ halfBreadths p f k long deep given along up. S-exact halfBreadths p f k long deep given (omega arith) (omega arith);
-  longitudinal-moments-are-exact = λ halfBreadths p f k long deep given along up. Sx-exact halfBreadths p f k long deep given (omega arith) (omega arith);
-  vertical-moments-are-exact = λ halfBreadths p f k long deep given along up. Sz-exact halfBreadths p f k long deep given (omega arith) (omega arith);
-  displacements-are-exact = made-displacement;
-  lcbs-are-exact = made-lcb;
-  kbs-are-exact = made-kb;
+  sums-are-exact = λ halfBreadths p f k long deep given. record {
+    volume-is = λ c d. S-exact halfBreadths p f k long deep given (omega arith) (omega arith);
+    longitudinal-is = λ c d. Sx-exact halfBreadths p f k long deep given (omega arith) (omega arith);
+    vertical-is = λ c d. Sz-exact halfBreadths p f k long deep given (omega arith) (omega arith);
+  };
+  rows-are-exact = λ made r h f given. record {
+    displacement-is = λ c d. made-displacement made r h f given (omega arith) (omega arith);
+    lcb-is = λ c d. made-lcb made r h f given (omega arith) (omega arith);
+    kb-is = λ c d. made-kb made r h f given (omega arith) (omega arith);
+  };
   fourth-degree-fails = (four-missed .0, four-missed .1);
   third-degree-moments-fail = (four-missed .2, four-missed .3);
 }

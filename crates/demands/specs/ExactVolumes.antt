@@ -15,7 +15,24 @@ use Rattle.hydrostatics.specs.Promise.{MakesRows}
 use Rattle.hydrostatics.specs.Row.{waterlineOf}
 use Rattle.hydrostatics.specs.Rows.{rowsOf}
 use Rattle.hydrostatics.specs.Usable.{rowIn}
+use Rattle.hydrostatics.specs.declared.Row.{Row}
 use Rattle.hydrostatics.specs.declared.Rows.the-variants.{Made}
+
+-- "When half-breadths are a polynomial of at most third degree in station and in waterline number, with whole coefficients, S is 576 times the exact double integral ..;
+-- and Sx and Sz are 576 times theirs when the degree in that direction is at most two": over n and k intervals
+pub record ExactSums (halfBreadths : List ℕ) (p : Particulars) (f : Formula) (k : ℕ) : Type 0 where
+  pub volume-is : f .stationDegree ≤ 3 → f .waterlineDegree ≤ 3 → pos (S halfBreadths p k) ≡ volume f (p .n) k
+  pub longitudinal-is : f .stationDegree ≤ 2 → f .waterlineDegree ≤ 3 → pos (Sx halfBreadths p k) ≡ longitudinalMoment f (p .n) k
+  pub vertical-is : f .stationDegree ≤ 3 → f .waterlineDegree ≤ 2 → pos (Sz halfBreadths p k) ≡ verticalMoment f (p .n) k
+
+-- "the displacement that the integral gives, rounded down once", and the centres: v is 576 times the integral of y, w of y·i or y·j
+pub record ExactRow (p : Particulars) (f : Formula) (k : ℕ) (row : Row) : Type 0 where
+  pub displacement-is : f .stationDegree ≤ 3 → f .waterlineDegree ≤ 3
+      → (v : ℕ) × (pos v ≡ volume f (p .n) k) × (row .displacement ≡ p .s * p .d * v * p .density / 288_000_000_000)
+  pub lcb-is : f .stationDegree ≤ 2 → f .waterlineDegree ≤ 3
+      → (v w : ℕ) × (pos v ≡ volume f (p .n) k) × (pos w ≡ longitudinalMoment f (p .n) k) × (row .lcb ≡ p .s * w / v)
+  pub kb-is : f .stationDegree ≤ 3 → f .waterlineDegree ≤ 2
+      → (v w : ℕ) × (pos v ≡ volume f (p .n) k) × (pos w ≡ verticalMoment f (p .n) k) × (row .kb ≡ p .d * w / v)
 
 -- y = iᵃ·jᵇ
 abbrev pub power : ℕ → ℕ → Formula
@@ -38,24 +55,13 @@ pub record ExactVolumes : Type 0 where
   pub integrals-are-whole : (a b : ℕ) → a ≤ 3 → b ≤ 3
       → (576 / ((a + 1) * (b + 1)) * ((a + 1) * (b + 1)) ≡ 576)
       × ((n k : ℕ) → monomial n k a b ≡ 576 / ((a + 1) * (b + 1)) * (n ^ (a + 1) * k ^ (b + 1)))
-  -- "When half-breadths are a polynomial of at most third degree in station and in waterline number, with whole coefficients, S is 576 times the exact double integral over every row"
-  pub volumes-are-exact : (halfBreadths : List ℕ) (p : Particulars) (f : Formula) (k : ℕ) → 2 ≤ p .n → 2 ≤ k → GivenBy f (p .n) k (halfBreadth halfBreadths p)
-      → f .stationDegree ≤ 3 → f .waterlineDegree ≤ 3 → pos (S halfBreadths p k) ≡ volume f (p .n) k
-  -- "and Sx and Sz are 576 times theirs when the degree in that direction is at most two"
-  pub longitudinal-moments-are-exact : (halfBreadths : List ℕ) (p : Particulars) (f : Formula) (k : ℕ) → 2 ≤ p .n → 2 ≤ k → GivenBy f (p .n) k (halfBreadth halfBreadths p)
-      → f .stationDegree ≤ 2 → f .waterlineDegree ≤ 3 → pos (Sx halfBreadths p k) ≡ longitudinalMoment f (p .n) k
-  pub vertical-moments-are-exact : (halfBreadths : List ℕ) (p : Particulars) (f : Formula) (k : ℕ) → 2 ≤ p .n → 2 ≤ k → GivenBy f (p .n) k (halfBreadth halfBreadths p)
-      → f .stationDegree ≤ 3 → f .waterlineDegree ≤ 2 → pos (Sz halfBreadths p k) ≡ verticalMoment f (p .n) k
-  -- "such a hull, answered, has the displacement that the integral gives, rounded down once", and the centres: v is 576 times the integral, w 576 times the moment's
-  pub displacements-are-exact : {halfBreadths : List ℕ} {p : Particulars} {rows after : List ℕ} {count : ℕ} → MakesRows halfBreadths p rows after (Made count)
-      → (r : ℕ) → r < count → (f : Formula) → GivenBy f (p .n) (waterlineOf r) (halfBreadth halfBreadths p) → f .stationDegree ≤ 3 → f .waterlineDegree ≤ 3
-      → (v : ℕ) × (pos v ≡ volume f (p .n) (waterlineOf r)) × (rowIn after r .displacement ≡ p .s * p .d * v * p .density / 288_000_000_000)
-  pub lcbs-are-exact : {halfBreadths : List ℕ} {p : Particulars} {rows after : List ℕ} {count : ℕ} → MakesRows halfBreadths p rows after (Made count)
-      → (r : ℕ) → r < count → (f : Formula) → GivenBy f (p .n) (waterlineOf r) (halfBreadth halfBreadths p) → f .stationDegree ≤ 2 → f .waterlineDegree ≤ 3
-      → (v w : ℕ) × (pos v ≡ volume f (p .n) (waterlineOf r)) × (pos w ≡ longitudinalMoment f (p .n) (waterlineOf r)) × (rowIn after r .lcb ≡ p .s * w / v)
-  pub kbs-are-exact : {halfBreadths : List ℕ} {p : Particulars} {rows after : List ℕ} {count : ℕ} → MakesRows halfBreadths p rows after (Made count)
-      → (r : ℕ) → r < count → (f : Formula) → GivenBy f (p .n) (waterlineOf r) (halfBreadth halfBreadths p) → f .stationDegree ≤ 3 → f .waterlineDegree ≤ 2
-      → (v w : ℕ) × (pos v ≡ volume f (p .n) (waterlineOf r)) × (pos w ≡ verticalMoment f (p .n) (waterlineOf r)) × (rowIn after r .kb ≡ p .d * w / v)
+  -- "where every half-breadth is the polynomial at its station and waterline", of the table's own numbers; at every waterline that has a row
+  pub sums-are-exact : (halfBreadths : List ℕ) (p : Particulars) (f : Formula) (k : ℕ) → 2 ≤ p .n → 2 ≤ k → GivenBy f (p .n) k (halfBreadth halfBreadths p)
+      → ExactSums halfBreadths p f k
+  -- "such a hull, answered": of any row that the call made
+  pub rows-are-exact : {halfBreadths : List ℕ} {p : Particulars} {rows after : List ℕ} {count : ℕ} → MakesRows halfBreadths p rows after (Made count)
+      → (r : ℕ) → r < count → (f : Formula) → GivenBy f (p .n) (waterlineOf r) (halfBreadth halfBreadths p)
+      → ExactRow p f (waterlineOf r) (rowIn after r)
   -- "And that fourth degree fails": in either direction, and for the moments the third in theirs
   pub fourth-degree-fails : Missed (power 4 0) S volume × Missed (power 0 4) S volume
   pub third-degree-moments-fail : Missed (power 3 0) Sx longitudinalMoment × Missed (power 0 3) Sz verticalMoment
