@@ -33,11 +33,14 @@ module _ (table : List ℕ) (p : Particulars) (f : Formula) (k : ℕ) (long : 2 
 
 -- of a call that answered
 module _ {table : List ℕ} {p : Particulars} {rows after : List ℕ} {count : ℕ} (made : MakesRows table p rows after (Made count)) (r : ℕ) (h : r < count) (f : Formula) (given : GivenBy f (p .n) (waterlineOf r) (halfBreadth table p)) where
+  sum-exact : f .stationDegree ≤ 3 → f .waterlineDegree ≤ 3 → pos (S table p (waterlineOf r)) ≡ volume f (p .n) (waterlineOf r)
+  sum-exact = S-exact table p f (waterlineOf r) (made-length made) (omega arith) given
+
   pub made-displacement : f .stationDegree ≤ 3 → f .waterlineDegree ≤ 3 → (v : ℕ) × (pos v ≡ volume f (p .n) (waterlineOf r)) × (rowIn after r .displacement ≡ p .s * p .d * v * p .density / 288_000_000_000)
   unfolding rowFrom
   made-displacement c d = (
     S table p (waterlineOf r),
-    S-exact table p f (waterlineOf r) (made-length made) (omega arith) given c d,
+    sum-exact c d,
     ap (λ row. row .displacement) (made-rows made .1 r h),
   )
 
@@ -46,7 +49,7 @@ module _ {table : List ℕ} {p : Particulars} {rows after : List ℕ} {count : �
   made-lcb c d = (
     S table p (waterlineOf r),
     Sx table p (waterlineOf r),
-    S-exact table p f (waterlineOf r) (made-length made) (omega arith) given (omega arith) d,
+    sum-exact (omega arith) d,
     Sx-exact table p f (waterlineOf r) (made-length made) (omega arith) given c d,
     ap (λ row. row .lcb) (made-rows made .1 r h),
   )
@@ -56,7 +59,7 @@ module _ {table : List ℕ} {p : Particulars} {rows after : List ℕ} {count : �
   made-kb c d = (
     S table p (waterlineOf r),
     Sz table p (waterlineOf r),
-    S-exact table p f (waterlineOf r) (made-length made) (omega arith) given c (omega arith),
+    sum-exact c (omega arith),
     Sz-exact table p f (waterlineOf r) (made-length made) (omega arith) given c d,
     ap (λ row. row .kb) (made-rows made .1 r h),
   )
