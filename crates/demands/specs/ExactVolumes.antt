@@ -18,8 +18,8 @@ use Rattle.hydrostatics.specs.Usable.{rowIn}
 use Rattle.hydrostatics.specs.declared.Row.{Row}
 use Rattle.hydrostatics.specs.declared.Rows.the-variants.{Made}
 
--- "When half-breadths are a polynomial of at most third degree in station and in waterline number, with whole coefficients, S is 576 times the exact double integral ..;
--- and Sx and Sz are 576 times theirs when the degree in that direction is at most two": over n and k intervals
+-- "When half-breadths are a polynomial of at most third degree in station and in waterline number, with whole coefficients, S is 576 times the exact double integral over every row;
+-- and .. Sx and Sz are 576 times theirs when the degree in that direction is at most two": the row of waterline k
 pub record ExactSums (halfBreadths : List ℕ) (p : Particulars) (f : Formula) (k : ℕ) : Type 0 where
   pub volume-is : f .stationDegree ≤ 3 → f .waterlineDegree ≤ 3 → pos (S halfBreadths p k) ≡ volume f (p .n) k
   pub longitudinal-is : f .stationDegree ≤ 2 → f .waterlineDegree ≤ 3 → pos (Sx halfBreadths p k) ≡ longitudinalMoment f (p .n) k
