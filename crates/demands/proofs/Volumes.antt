@@ -98,11 +98,11 @@ four-missed = (
 
 pub exact-volumes : ExactVolumes
 exact-volumes = record {
-  integrals-are-whole = λ a b l m. (factor-whole a b l m, monomial-cleared a b l m);
+  integrals-are-whole = λ a b l m. (factor-whole a b (omega arith) (omega arith), monomial-cleared a b (omega arith) (omega arith));
   sums-are-exact = λ halfBreadths p f k long deep given. record {
-    volume-is = λ c d. S-exact halfBreadths p f k long deep given (omega arith) (omega arith);
-    longitudinal-is = λ c d. Sx-exact halfBreadths p f k long deep given (omega arith) (omega arith);
-    vertical-is = λ c d. Sz-exact halfBreadths p f k long deep given (omega arith) (omega arith);
+    volume-is = λ c d. S-exact halfBreadths p f k (omega arith) (omega arith) given (omega arith) (omega arith);
+    longitudinal-is = λ c d. Sx-exact halfBreadths p f k (omega arith) (omega arith) given (omega arith) (omega arith);
+    vertical-is = λ c d. Sz-exact halfBreadths p f k (omega arith) (omega arith) given (omega arith) (omega arith);
   };
   rows-are-exact = λ made r h f given. record {
     displacement-is = λ c d. made-displacement made r h f given (omega arith) (omega arith);
