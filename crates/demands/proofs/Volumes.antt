@@ -34,9 +34,9 @@ given-at f y i j = eqℤ (pos (y i j)) (valueAt f i j)
 given-test : Formula → ℕ → ℕ → (ℕ → ℕ → ℕ) → Bool
 given-test f n k y = each (λ i. each (given-at f y i) 0 (k + 1)) 0 (n + 1)
 
-by-test : (f : Formula) (n k : ℕ) (y : ℕ → ℕ → ℕ) → given-test f n k y ≡ true → GivenBy f n k y
+given-told : (f : Formula) (n k : ℕ) (y : ℕ → ℕ → ℕ) → given-test f n k y ≡ true → GivenBy f n k y
 unfolding given-at given-test
-by-test f n k y e i j l m =
+given-told f n k y e i j l m =
     eqℤ-same (pos (y i j)) (valueAt f i j)
     (each-at (given-at f y i) 0 (k + 1) (each-at (λ i. each (given-at f y i) 0 (k + 1)) 0 (n + 1) e i (omega arith) (omega arith)) j (omega arith) (omega arith))
 
@@ -51,7 +51,7 @@ unfolding five
 missed f sum integral table rows given so sum-is integral-is = record {
   halfBreadths = table;
   p = five;
-  given = by-test f 5 5 (halfBreadth table five) given;
+  given = given-told f 5 5 (halfBreadth table five) given;
   rows = rows;
   answered-with = so;
   five-by-five = (refl, refl);
