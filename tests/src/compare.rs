@@ -83,8 +83,8 @@ fn show(call: &Call) {
 }
 
 /// Examines each call of a case; the steps of a history must also be the list's, the two readings of KM must fit, both
-/// engines must make the same of a hull, a hull by formula must have its integrals, a surface must be the same with its middle line moved, a light ship must fit
-/// its test altered, and a profile its KG lowered.
+/// engines must make the same of a hull, a hull by formula must have its integrals, a surface must be the same with its
+/// middle line moved, a light ship must fit its test altered, and a profile its KG lowered.
 fn examine(case: &Case, wrapped: bool, outcomes: &mut Outcomes) -> Result<(), String> {
     match case {
         Case::Call(call) => {

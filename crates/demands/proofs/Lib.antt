@@ -5,5 +5,6 @@ pub mod Longer
 pub mod Hoppers
 pub mod Inclined
 pub mod Profiled
+pub mod MissedHulls
 pub mod Volumes
 pub mod DemandsMet

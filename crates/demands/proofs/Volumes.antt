@@ -1,100 +1,33 @@
--- Exact volumes: hulls by formula get their integrals, from the theorems of the crates below; and four hulls that miss theirs, each computed:
--- y = i⁴ and y = j⁴, and for the moments y = i³ and y = j³.
+-- Exact volumes: hulls by formula get their integrals, from the theorems of the crates below.
 --     exact-volumes      all of `ExactVolumes`
+--     reached            what it says at its own bounds: two intervals each way, the highest degrees, the last row
 -- Assumes nothing.
-use mathlib.Core.Bool.{Bool, true}
-use mathlib.Core.List.{List, [], _∷_, _++_}
+use mathlib.Core.Bool.{true}
+use mathlib.Core.List.{List, [], _∷_}
 use mathlib.Core.Path.{_≡_, refl}
-use Prim.Native.Nat.{ℕ, _+_, _*_}
+use Prim.Native.Nat.{ℕ, _*_, _/_}
 use native.Mathlib.Omega.{arith}
-use lib.IntN.{ℤ, pos}
-use lib.ListN.{length, replicate}
+use lib.IntN.{pos}
 use Rattle.arithmetic.specs.Choice.{if_then_else_}
 use Rattle.arithmetic.specs.Signed.{eqℤ}
 use Rattle.arithmetic.specs.Sum.{sumBy}
-use Rattle.arithmetic.proofs.Crossing.{eqℤ-same}
-use Rattle.arithmetic.proofs.Tests.{each, each-at}
+use Rattle.arithmetic.proofs.Tests.{each}
+use Rattle.ranges.specs.Fields.{within}
+use Rattle.ranges.specs.Outcome.{andThen, answerWith, leftWith}
+use Rattle.ranges.specs.Outside.{outsideFrom, firstOutside, tooLong, badParticularBy}
 use Rattle.ranges.specs.declared.Particulars.{Particulars}
-use Rattle.simpson.specs.Formula.{Formula, termwise, valueAt, GivenBy, monomial, volume, longitudinalMoment, verticalMoment}
+use Rattle.simpson.specs.Formula.{termwise, volume, longitudinalMoment, verticalMoment}
 use Rattle.simpson.specs.Multipliers.{firstRule, secondRule, later, multiplier}
 use Rattle.simpson.proofs.Volumes.{factor-whole, monomial-cleared}
-use Rattle.ranges.specs.Fields.{within}
-use Rattle.ranges.specs.Outcome.{answered, andThen}
-use Rattle.ranges.specs.Outside.{outsideFrom, firstOutside, tooLong, badParticularBy}
 use Rattle.hydrostatics.specs.Hull.{halfBreadth, term, S, Sx, Sz, Q, C}
+use Rattle.hydrostatics.specs.Promise.{MakesRows}
 use Rattle.hydrostatics.specs.Row.{rowFrom}
-use Rattle.hydrostatics.specs.Rows.{displacementBefore, rowsUpTo, rowsBy, rowsOf}
+use Rattle.hydrostatics.specs.Rows.{displacementBefore, rowsUpTo, rowsBy}
+use Rattle.hydrostatics.specs.Usable.{rowIn}
+use Rattle.hydrostatics.specs.declared.Rows.the-variants.{Made}
 use Rattle.hydrostatics.proofs.ByFormula.{S-exact, Sx-exact, Sz-exact, made-displacement, made-lcb, made-kb}
-use Rattle.demands.specs.ExactVolumes.{power, Missed, ExactVolumes}
-
--- that a formula gives a table, by a test at every station and waterline
-given-at : Formula → (ℕ → ℕ → ℕ) → ℕ → ℕ → Bool
-given-at f y i j = eqℤ (pos (y i j)) (valueAt f i j)
-
-given-test : Formula → ℕ → ℕ → (ℕ → ℕ → ℕ) → Bool
-given-test f n k y = each (λ i. each (given-at f y i) 0 (k + 1)) 0 (n + 1)
-
-given-told : (f : Formula) (n k : ℕ) (y : ℕ → ℕ → ℕ) → given-test f n k y ≡ true → GivenBy f n k y
-unfolding given-at given-test
-given-told f n k y e i j l m =
-    eqℤ-same (pos (y i j)) (valueAt f i j)
-    (each-at (given-at f y i) 0 (k + 1) (each-at (λ i. each (given-at f y i) 0 (k + 1)) 0 (n + 1) e i (omega arith) (omega arith)) j (omega arith) (omega arith))
-
--- five intervals of 2,500 mm and five of 500 mm, in fresh water
-five : Particulars
-five = record { n = 5; m = 5; s = 2_500; d = 500; density = 1_000 }
-
-missed : (f : Formula) (sum : List ℕ → Particulars → ℕ → ℕ) (integral : Formula → ℕ → ℕ → ℤ) (table rows : List ℕ)
-    → given-test f 5 5 (halfBreadth table five) ≡ true → rowsOf table five (length rows) ≡ answered rows → sum table five 5 ≡ 1_803_360 → integral f 5 5 ≡ pos (576 * 3_125)
-    → Missed f sum integral
-unfolding five
-missed f sum integral table rows given so sum-is integral-is = record {
-  halfBreadths = table;
-  p = five;
-  given = given-told f 5 5 (halfBreadth table five) given;
-  rows = rows;
-  answered-with = so;
-  five-by-five = (refl, refl);
-  sum-is = sum-is;
-  integral-is = integral-is;
-}
-
--- station by station: each number at all six waterlines; and all six numbers at each station
-abbrev at-stations : List ℕ → List ℕ
-at-stations [] = []
-at-stations (y ∷ rest) = replicate 6 y ++ at-stations rest
-
-abbrev at-waterlines : List ℕ → List ℕ
-at-waterlines ys = ys ++ ys ++ ys ++ ys ++ ys ++ ys
-
-four-missed : Missed (power 4 0) S volume × Missed (power 0 4) S volume × Missed (power 3 0) Sx longitudinalMoment × Missed (power 0 3) Sz verticalMoment
-unfolding five given-test given-at each eqℤ halfBreadth termwise monomial sumBy multiplier firstRule secondRule later term S Sx Sz Q C rowFrom rowsBy rowsUpTo displacementBefore badParticularBy tooLong firstOutside outsideFrom within andThen if_then_else_
-four-missed = (
-  missed (power 4 0) S volume (at-stations (0 ∷ 1 ∷ 16 ∷ 81 ∷ 256 ∷ 625 ∷ []))
-      (1_000 ∷ 3_130 ∷ 10_465 ∷ 500 ∷ 59 ∷ 559 ∷ 3_130_833
-      ∷ 1_500 ∷ 4_696 ∷ 10_465 ∷ 750 ∷ 39 ∷ 789 ∷ 3_130_833
-      ∷ 2_000 ∷ 6_261 ∷ 10_465 ∷ 1_000 ∷ 29 ∷ 1_029 ∷ 3_130_833
-      ∷ 2_500 ∷ 7_827 ∷ 10_465 ∷ 1_250 ∷ 23 ∷ 1_273 ∷ 3_130_833 ∷ [])
-      refl refl refl refl,
-  missed (power 0 4) S volume (at-waterlines (0 ∷ 1 ∷ 16 ∷ 81 ∷ 256 ∷ 625 ∷ []))
-      (1_000 ∷ 83 ∷ 6_250 ∷ 900 ∷ 0 ∷ 900 ∷ 400_000
-      ∷ 1_500 ∷ 618 ∷ 6_250 ∷ 1_295 ∷ 7 ∷ 1_302 ∷ 2_025_000
-      ∷ 2_000 ∷ 2_566 ∷ 6_250 ∷ 1_675 ∷ 54 ∷ 1_729 ∷ 6_400_000
-      ∷ 2_500 ∷ 7_827 ∷ 6_250 ∷ 2_093 ∷ 259 ∷ 2_353 ∷ 15_625_000 ∷ [])
-      refl refl refl refl,
-  missed (power 3 0) Sx longitudinalMoment (at-stations (0 ∷ 1 ∷ 8 ∷ 27 ∷ 64 ∷ 125 ∷ []))
-      (1_000 ∷ 781 ∷ 10_018 ∷ 500 ∷ 2 ∷ 502 ∷ 781_250
-      ∷ 1_500 ∷ 1_171 ∷ 10_018 ∷ 750 ∷ 1 ∷ 751 ∷ 781_250
-      ∷ 2_000 ∷ 1_562 ∷ 10_018 ∷ 1_000 ∷ 1 ∷ 1_001 ∷ 781_250
-      ∷ 2_500 ∷ 1_953 ∷ 10_018 ∷ 1_250 ∷ 0 ∷ 1_250 ∷ 781_250 ∷ [])
-      refl refl refl refl,
-  missed (power 0 3) Sz verticalMoment (at-waterlines (0 ∷ 1 ∷ 8 ∷ 27 ∷ 64 ∷ 125 ∷ []))
-      (1_000 ∷ 50 ∷ 6_250 ∷ 833 ∷ 0 ∷ 833 ∷ 200_000
-      ∷ 1_500 ∷ 253 ∷ 6_250 ∷ 1_222 ∷ 0 ∷ 1_222 ∷ 675_000
-      ∷ 2_000 ∷ 800 ∷ 6_250 ∷ 1_604 ∷ 2 ∷ 1_606 ∷ 1_600_000
-      ∷ 2_500 ∷ 1_953 ∷ 6_250 ∷ 2_003 ∷ 8 ∷ 2_012 ∷ 3_125_000 ∷ [])
-      refl refl refl refl,
-)
+use Rattle.demands.specs.ExactVolumes.{power, ExactSums, ExactRow, ExactVolumes}
+use Rattle.demands.proofs.MissedHulls.{given-at, given-test, given-told, four-missed}
 
 pub exact-volumes : ExactVolumes
 exact-volumes = record {
@@ -112,3 +45,56 @@ exact-volumes = record {
   fourth-degree-fails = (four-missed .0, four-missed .1);
   third-degree-moments-fail = (four-missed .2, four-missed .3);
 }
+
+-- ---- at the bounds
+-- two intervals of 2,500 mm and three of 500 mm, in fresh water
+abbrev two : Particulars
+two = record { n = 2; m = 3; s = 2_500; d = 500; density = 1_000 }
+
+-- of y = iᵃ·jᵇ: the sums of the first row's waterline, and the last row
+sums-and-row : (a b : ℕ) (table rows : List ℕ) → given-test (power a b) 2 3 (halfBreadth table two) ≡ true → MakesRows table two rows rows (Made 2)
+    → ExactSums table two (power a b) 2 × ExactRow two (power a b) 3 (rowIn rows 1)
+sums-and-row a b table rows e made =
+    let given = given-told (power a b) 2 3 (halfBreadth table two) e in (
+      exact-volumes .sums-are-exact table two (power a b) 2 (omega arith) (omega arith) (λ i j l m. given i j (omega arith) (omega arith)),
+      exact-volumes .rows-are-exact made 1 (omega arith) (power a b) given,
+    )
+
+-- y = i³·j³, y = i²·j³ and y = i³·j²
+abbrev third : List ℕ
+third = 0 ∷ 0 ∷ 0 ∷ 0 ∷ 0 ∷ 1 ∷ 8 ∷ 27 ∷ 0 ∷ 8 ∷ 64 ∷ 216 ∷ []
+
+abbrev second-along : List ℕ
+second-along = 0 ∷ 0 ∷ 0 ∷ 0 ∷ 0 ∷ 1 ∷ 8 ∷ 27 ∷ 0 ∷ 4 ∷ 32 ∷ 108 ∷ []
+
+abbrev second-up : List ℕ
+second-up = 0 ∷ 0 ∷ 0 ∷ 0 ∷ 0 ∷ 1 ∷ 4 ∷ 9 ∷ 0 ∷ 8 ∷ 32 ∷ 72 ∷ []
+
+-- the displacement, LCB and KB of the last row, 202 kg, 3,750 mm and 1,125 mm, from the integrals
+reached :
+    (576 / (4 * 4) * (4 * 4) ≡ 576)
+    × (pos (S third two 2) ≡ volume (power 3 3) 2 2)
+    × ((v : ℕ) × (pos v ≡ volume (power 3 3) 2 3) × (202 ≡ 2_500 * 500 * v * 1_000 / 288_000_000_000))
+    × (pos (Sx second-along two 2) ≡ longitudinalMoment (power 2 3) 2 2)
+    × ((v w : ℕ) × (pos v ≡ volume (power 2 3) 2 3) × (pos w ≡ longitudinalMoment (power 2 3) 2 3) × (3_750 ≡ 2_500 * w / v))
+    × (pos (Sz second-up two 2) ≡ verticalMoment (power 3 2) 2 2)
+    × ((v w : ℕ) × (pos v ≡ volume (power 3 2) 2 3) × (pos w ≡ verticalMoment (power 3 2) 2 3) × (1_125 ≡ 500 * w / v))
+unfolding given-test given-at each eqℤ halfBreadth termwise sumBy multiplier firstRule secondRule later term S Sx Sz Q C rowFrom rowIn rowsBy rowsUpTo displacementBefore badParticularBy tooLong firstOutside outsideFrom within andThen answerWith leftWith if_then_else_
+reached =
+    let of-third =
+    sums-and-row 3 3 third (1_000 ∷ 40 ∷ 4_166 ∷ 833 ∷ 3 ∷ 837 ∷ 160_000 ∷ 1_500 ∷ 202 ∷ 4_166 ∷ 1_222 ∷ 27 ∷ 1_250 ∷ 540_000 ∷ [])
+    refl (record { answer-is = refl; left = refl }) in
+    let along =
+    sums-and-row 2 3 second-along (1_000 ∷ 26 ∷ 3_750 ∷ 833 ∷ 0 ∷ 834 ∷ 106_666 ∷ 1_500 ∷ 135 ∷ 3_750 ∷ 1_222 ∷ 5 ∷ 1_227 ∷ 360_000 ∷ [])
+    refl (record { answer-is = refl; left = refl }) in
+    let up =
+    sums-and-row 3 2 second-up (1_000 ∷ 26 ∷ 4_166 ∷ 750 ∷ 0 ∷ 750 ∷ 80_000 ∷ 1_500 ∷ 90 ∷ 4_166 ∷ 1_125 ∷ 2 ∷ 1_127 ∷ 180_000 ∷ [])
+    refl (record { answer-is = refl; left = refl }) in (
+      exact-volumes .integrals-are-whole 3 3 (omega arith) (omega arith) .0,
+      of-third .0 .volume-is (omega arith) (omega arith),
+      of-third .1 .displacement-is (omega arith) (omega arith),
+      along .0 .longitudinal-is (omega arith) (omega arith),
+      along .1 .lcb-is (omega arith) (omega arith),
+      up .0 .vertical-is (omega arith) (omega arith),
+      up .1 .kb-is (omega arith) (omega arith),
+    )

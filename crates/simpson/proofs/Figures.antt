@@ -26,14 +26,14 @@ abbrev parabolic : Formula
 parabolic = by ((pos 0 ∷ pos 0 ∷ []) ∷ (pos 400 ∷ pos 200 ∷ []) ∷ (negsuc 49 ∷ negsuc 24 ∷ []) ∷ [])
 
 -- y = i²·(6 − i)·j²·(6 − j)
-abbrev cubic : Formula
-cubic =
+abbrev bicubic : Formula
+bicubic =
     let none : List ℤ = pos 0 ∷ pos 0 ∷ pos 0 ∷ pos 0 ∷ [] in
     by (none ∷ none ∷ (pos 0 ∷ pos 0 ∷ pos 36 ∷ negsuc 5 ∷ []) ∷ (pos 0 ∷ pos 0 ∷ negsuc 5 ∷ pos 1 ∷ []) ∷ [])
 
 pub formulas-by-hand :
     (valueAt box 0 0 ≡ pos 3) × (volume box 4 5 ≡ pos 34_560) × (longitudinalMoment box 4 5 ≡ pos 69_120) × (verticalMoment box 4 5 ≡ pos 86_400)
     × (valueAt parabolic 3 4 ≡ pos 2_250) × (volume parabolic 8 4 ≡ pos 19_660_800) × (longitudinalMoment parabolic 8 4 ≡ pos 78_643_200) × (verticalMoment parabolic 8 4 ≡ pos 45_875_200)
-    × (valueAt cubic 5 1 ≡ pos 125) × (volume cubic 6 2 ≡ pos 746_496)
+    × (valueAt bicubic 5 1 ≡ pos 125) × (volume bicubic 6 2 ≡ pos 746_496)
 unfolding termwise monomial sumBy
 formulas-by-hand = (refl, refl, refl, refl, refl, refl, refl, refl, refl, refl)

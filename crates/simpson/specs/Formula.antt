@@ -1,4 +1,4 @@
--- "Half-breadths are a polynomial … in station and in waterline number, with whole coefficients": a formula for y at station i and waterline j,
+-- "Half-breadths are a polynomial .. in station and in waterline number, with whole coefficients": a formula for y at station i and waterline j,
 -- and 576 times the exact double integrals of y, y·i and y·j over 0..n and 0..k.
 use mathlib.Core.Path.{_≡_}
 use Prim.Native.Nat.{ℕ, _+_, _*_, _/_, _^_, _≤_}

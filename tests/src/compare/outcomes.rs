@@ -133,14 +133,13 @@ const FILLINGS: [&str; 5] = ["empty", "slack", "at 98 per cent", "above it", "fu
 const STATES: [&str; 4] = ["empty", "full", "with another mark than 1", "with something in an empty slot"];
 
 /// What came out of one call: 0 or the refusal's number, how the vessel lies and where it floats where that was found,
-/// what the other reading of KM made of it, what both engines made of its hull, what a hull by formula with
-/// its particulars is like, how long its own is, which of its
-/// half-breadths it is refused for, how many of the condition's tanks are filled how, in which states the tally was
-/// that a step was answered on, what editors left in the text that was read or in its token that is no number, what a
-/// hopper tank's surface is like or is refused for, and to which sides its middle line was moved, what an inclining
-/// test and its light ship are like or are refused for, before what, and how the test was altered, and where the peak
-/// of a profile stands, what its vessel, it and its rules are like or the vessel is refused for, how its KG was
-/// lowered, and what that turned.
+/// what the other reading of KM made of it, what both engines made of its hull, what a hull by formula with its
+/// particulars is like, how long its own is, which of its half-breadths it is refused for, how many of the condition's
+/// tanks are filled how, in which states the tally was that a step was answered on, what editors left in the text that
+/// was read or in its token that is no number, what a hopper tank's surface is like or is refused for, and to which
+/// sides its middle line was moved, what an inclining test and its light ship are like or are refused for, before what,
+/// and how the test was altered, and where the peak of a profile stands, what its vessel, it and its rules are like or
+/// the vessel is refused for, how its KG was lowered, and what that turned.
 pub struct Outcome {
     call: usize,
     refusal: usize,
