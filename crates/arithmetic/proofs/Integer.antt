@@ -8,7 +8,7 @@ use mathlib.Core.Bool.{Bool, true, false}
 use Prim.Native.Nat.{ℕ, zero, suc}
 use lib.IntN.{ℤ, pos, negsuc, suc_ℤ, pred_ℤ, neg_ℤ, ◌+ℤ◌, ◌-ℤ◌, ◌*ℤ◌, pow, one, +ℤ-suc_ℤ, +ℤ-pred_ℤ, suc_ℤ-*ℤ, pred_ℤ-*ℤ, +ℤ_idr, zero-*ℤ, +ℤ_assoc, +ℤ_comm, neg_ℤ-neg_ℤ, *ℤ_comm, *ℤ-one, *ℤ-zero, *ℤ-negsuc}
 use Rattle.arithmetic.proofs.Algebra.{Semiring, is_zero, is_zero_sound}
-use Rattle.arithmetic.proofs.Polynomial.{Poly, cst, Exp, con, ◌:+◌, ◌:*◌, :_◌, ◌:^◌, Of, at_vars, All, norm, eval, look, solve}
+use Rattle.arithmetic.proofs.Polynomial.{Poly, cst, Exp, con, ◌:+◌, ◌:*◌, :-◌, ◌:^◌, Of, at_vars, All, norm, eval, look, solve}
 
 -- induction by successor and predecessor
 induction : (P : ℤ → Type 0) → P (pos zero) → ((k : ℤ) → P k → P (suc_ℤ k)) → ((k : ℤ) → P k → P (pred_ℤ k)) → (k : ℤ) → P k

@@ -19,13 +19,13 @@ pub data Exp (R : Type 0) : Type 0 where
   con : R → Exp R
   ◌:+◌ : Exp R → Exp R → Exp R
   ◌:*◌ : Exp R → Exp R → Exp R
-  :_◌ : Exp R → Exp R
+  :-◌ : Exp R → Exp R
   ◌:^◌ : Exp R → ℕ → Exp R
 
 infixl 6 ◌:+◌
 infixl 7 ◌:*◌
 infixl 8 ◌:^◌
-infixl 9 :_◌
+infixl 9 :-◌
 -- functions of n arguments, such a function at the variables from x_i on, and a statement about every list of n values
 abbrev pub Of : ℕ → Type 0 → Type 0 → Type 0
 Of zero A B = B

@@ -9,7 +9,7 @@ use lib.IntN.{ℤ, pos, negsuc, ◌+ℤ◌, ◌-ℤ◌, ◌*ℤ◌}
 use Rattle.arithmetic.specs.Signed.{is_negative}
 use Rattle.arithmetic.specs.Sum.{sum_by, sum_to_ℤ}
 use Rattle.arithmetic.proofs.Integer.{solve_ℤ}
-use Rattle.arithmetic.proofs.Polynomial.{con, ◌:+◌, ◌:*◌, :_◌}
+use Rattle.arithmetic.proofs.Polynomial.{con, ◌:+◌, ◌:*◌, :-◌}
 use Rattle.arithmetic.proofs.Tests.{never}
 
 pub whole_plus : (a b : ℤ) → is_negative a ≡ false → is_negative b ≡ false → is_negative (a +ℤ b) ≡ false

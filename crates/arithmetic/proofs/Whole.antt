@@ -5,7 +5,7 @@
 use mathlib.Core.Path.{◌≡◌, refl, sym, ap, ◌∙◌}
 use Prim.Native.Nat.{ℕ, zero, suc, ◌^◌}
 use native.Mathlib.Nat.{pow-zero, pow-suc}
-use lib.IntN.{ℤ, pos, nat_abs, ◌+ℤ◌, ◌*ℤ◌, pow}
+use lib.IntN.{pos, nat_abs, ◌+ℤ◌, ◌*ℤ◌, pow}
 use Rattle.arithmetic.specs.Sum.{sum_by, sum_to, sum_to_ℤ}
 use Rattle.arithmetic.proofs.Integer.{pow_of_zero, pow_of_suc}
 

@@ -1,5 +1,7 @@
 // Numbers that know nothing of ships: rounding up, and the crossing between a signed 64-bit number and a whole one.
 // No other crate looks into a machine word: what it needs of a signed number it asks of these functions.
+#![tactic(auto)]
+
 ghost use Rattle.std.specs.Prelude.{◌≡◌, pos, neg_ℤ, nat_abs, ◌-ℤ◌, get_or};
 ghost use Rattle.arithmetic.specs.Rounding.{rounded_up};
 ghost use Rattle.arithmetic.specs.Signed.{is_negative, eq_ℤ, nearest};

@@ -12,7 +12,7 @@ use lib.ListN.{length, get_or}
 use Rattle.arithmetic.specs.Signed.{is_negative}
 use Rattle.arithmetic.specs.Sum.{sum_to_ℤ, sum_to}
 use Rattle.arithmetic.proofs.Integer.{integer, solve_ℤ}
-use Rattle.arithmetic.proofs.Polynomial.{con, ◌:+◌, ◌:*◌, :_◌, ◌:^◌}
+use Rattle.arithmetic.proofs.Polynomial.{con, ◌:+◌, ◌:*◌, :-◌, ◌:^◌}
 use Rattle.arithmetic.proofs.Sums.{sum_same, sum_plus, times_sum}
 use Rattle.arithmetic.proofs.Variance.{whole_plus, whole_times, variance_whole}
 use Rattle.arithmetic.proofs.Whole.{pos_sum, pos_pow}

@@ -13,7 +13,7 @@ use lib.IntN.{ℤ, pos, nat_abs, ◌+ℤ◌, ◌-ℤ◌, ◌*ℤ◌, pow}
 use lib.ListN.{length, get_or, replicate, length-replicate, get_or-replicate}
 use Rattle.arithmetic.specs.Rounding.{rounded_up}
 use Rattle.arithmetic.proofs.Integer.{solve_ℤ, *ℤ_pos_one}
-use Rattle.arithmetic.proofs.Polynomial.{con, ◌:+◌, ◌:*◌, :_◌, ◌:^◌}
+use Rattle.arithmetic.proofs.Polynomial.{con, ◌:+◌, ◌:*◌, :-◌, ◌:^◌}
 use Rattle.arithmetic.proofs.Ring.{ring}
 use Rattle.arithmetic.proofs.Rounding.{up_scaled, up_by_none, up_of, up_zero, up_least}
 use Rattle.arithmetic.proofs.Tests.{same_or_other}

@@ -10,7 +10,7 @@ use lib.IntN.{ℤ, pos, neg_ℤ, nat_abs, ◌+ℤ◌, ◌-ℤ◌, ◌*ℤ◌, po
 use lib.ListN.{length, get_or, length-map}
 use Rattle.arithmetic.specs.Rounding.{rounded_up}
 use Rattle.arithmetic.proofs.Integer.{solve_ℤ}
-use Rattle.arithmetic.proofs.Polynomial.{con, ◌:+◌, ◌:*◌, :_◌, ◌:^◌}
+use Rattle.arithmetic.proofs.Polynomial.{con, ◌:+◌, ◌:*◌, :-◌, ◌:^◌}
 use Rattle.arithmetic.proofs.Whole.{pos_pow}
 use Rattle.simpson.specs.Curve.{curve, curve_ℤ}
 use Rattle.simpson.proofs.Curves.{curve_same, curve_ℤ_same, curve_ℤ_plus, curve_ℤ_times, pos_curve}

@@ -1,4 +1,5 @@
 // The rows of a hull, by waterplanes and by sections, and their display.
+#![tactic(auto)]
 mod sections;
 mod table;
 mod waterplanes;

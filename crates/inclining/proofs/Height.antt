@@ -10,7 +10,7 @@ use native.Mathlib.Omega.{arith}
 use lib.IntN.{pos, ◌-ℤ◌}
 use lib.Signed.{◌≤ℤ◌}
 use Rattle.arithmetic.proofs.Integer.{solve_ℤ}
-use Rattle.arithmetic.proofs.Polynomial.{◌:+◌, ◌:*◌, :_◌}
+use Rattle.arithmetic.proofs.Polynomial.{◌:+◌, ◌:*◌, :-◌}
 use Rattle.arithmetic.proofs.Ring.{ring}
 use Rattle.arithmetic.proofs.Rounding.{RoundedUp, up_of, up_mono}
 use Rattle.loading.specs.Fraction.{Fraction}

@@ -17,7 +17,7 @@ use Rattle.arithmetic.specs.Signed.{is_negative}
 use Rattle.arithmetic.proofs.Choice.{chosen}
 use Rattle.arithmetic.proofs.Crossing.{less_under, less_over}
 use Rattle.arithmetic.proofs.Integer.{solve_ℤ}
-use Rattle.arithmetic.proofs.Polynomial.{◌:+◌, ◌:*◌, :_◌}
+use Rattle.arithmetic.proofs.Polynomial.{◌:+◌, ◌:*◌, :-◌}
 use Rattle.arithmetic.proofs.Tests.{by_test}
 use Rattle.ranges.specs.Outcome.{answered, refused}
 use Rattle.ranges.specs.Refusals.{no_light_weight, light_moment_negative}

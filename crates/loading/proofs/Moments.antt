@@ -10,7 +10,7 @@ use Prim.Native.Nat.{ℕ, ◌+◌, ◌*◌}
 use native.Mathlib.Nat.{zero-add}
 use lib.IntN.{ℤ, pos, ◌+ℤ◌, ◌-ℤ◌, ◌*ℤ◌}
 use Rattle.arithmetic.proofs.Integer.{solve_ℤ}
-use Rattle.arithmetic.proofs.Polynomial.{◌:+◌, :_◌}
+use Rattle.arithmetic.proofs.Polynomial.{◌:+◌, :-◌}
 use Rattle.ranges.specs.Sides.{sides_of}
 use Rattle.ranges.proofs.Facts.{sides_are}
 use Rattle.loading.specs.Private.Aboard.{nothing, ◌with◌, of_item, of_tank, altogether, aboard_of}

@@ -1,4 +1,5 @@
 // The loading condition: items, tanks and rows in, the condition or its one refusal out.
+#![tactic(auto)]
 ghost use Rattle.std.specs.Prelude.{◌≡◌, ◌<◌};
 ghost use Rattle.loading.specs.Private.Aboard.{Bearable};
 ghost use Rattle.loading.specs.Private.Afloat.{RowsUsable};

@@ -1,4 +1,5 @@
 // The offset file and its reader. Nothing here knows of hulls.
+#![tactic(auto)]
 mod reader;
 mod reading;
 mod tokens;

@@ -1,4 +1,5 @@
 // From a file's bytes to the sheet's bytes, as one call.
+#![tactic(auto)]
 mod lines;
 mod sheet;
 

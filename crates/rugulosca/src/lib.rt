@@ -1,5 +1,6 @@
 // The calls for other languages, by numbers and slices alone. A call returns 0 and leaves its values, or returns the number of
 // its refusal and leaves the refusal's place; what it does not leave stays as it was. include/rugulosca.h says the same in C.
+#![tactic(auto)]
 mod conditions;
 mod files;
 mod hulls;

@@ -1,5 +1,6 @@
 // The printing program: a file's text on standard input, its sheet on standard output. A word on the command line names the
 // reading of KM.
+#![tactic(auto)]
 mod names;
 
 use libc::{STDERR_FILENO, STDIN_FILENO, STDOUT_FILENO};

@@ -17,7 +17,7 @@ use lib.IntN.{ℤ, pos, negsuc, ◌+ℤ◌, ◌-ℤ◌, ◌*ℤ◌}
 use Rattle.arithmetic.specs.Sum.{sum_by, sum_to_ℤ}
 use Rattle.arithmetic.proofs.Algebra.{natural}
 use Rattle.arithmetic.proofs.Integer.{integer, solve_ℤ}
-use Rattle.arithmetic.proofs.Polynomial.{con, ◌:+◌, ◌:*◌, :_◌}
+use Rattle.arithmetic.proofs.Polynomial.{con, ◌:+◌, ◌:*◌, :-◌}
 use Rattle.arithmetic.proofs.Sums.{sum_same, weighted_plus, weighted_times, weighted_sum, sum_mono}
 use Rattle.simpson.specs.Multipliers.{multiplier}
 use Rattle.arithmetic.proofs.Whole.{pos_sum}

@@ -1,4 +1,5 @@
 // The writer. The text is put together in a local array that holds any text, and copied into the lent room where it fits.
+#![tactic(auto)]
 ghost use Rattle.std.specs.Prelude.{◌≡◌, ◌++◌, ◌∷◌, [], map, ◌+◌, ◌*◌, ◌/◌, ◌≤◌, ◌<◌, ◌^◌, pos, length, drop};
 ghost use Rattle.numerals.specs.Printed.{printed};
 ghost use Rattle.ranges.specs.Private.InRange.{ParticularsInRange, HalfBreadthsInRange};
