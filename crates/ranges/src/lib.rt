@@ -1,5 +1,6 @@
 // The paper's limits, refusals and particulars: each number of the offset file against its range.
 #![tactic(auto)]
+
 ghost use Rattle.std.specs.Prelude.{◌≡◌, map, pos, length, take, drop, ◌+◌, ◌<◌, ◌≤◌};
 ghost use Rattle.ranges.specs.Private.Bounds.{bounds_of, ranges_of};
 ghost use Rattle.ranges.specs.Fields.{◌to◌, within, range_of, fields, half_breadth, item, tank, row_ranges, hopper_width, inclining, shift, cross_curve, heights};

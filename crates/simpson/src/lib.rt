@@ -1,5 +1,6 @@
 // Simpson's first and second rules, joined: the multiplier at each station, and the sum over a curve.
 #![tactic(auto)]
+
 ghost use Rattle.std.specs.Prelude.{◌≡◌, ◌≤◌};
 ghost use Rattle.simpson.specs.Multipliers.{multiplier as Multipliers·multiplier};
 ghost use Rattle.simpson.specs.Private.Places.{repeated_first, second_last};

@@ -7,30 +7,19 @@ use native.Mathlib.Omega.{arith}
 use borrow.Author.Tests.{eq-eqb, ne_eqb, le-leb}
 use lib.Dec.{eqb}
 use Rattle.ranges.specs.Sizes.{whole_records}
-use borrow.Author.Rules.{rules}
-use Rattle.ranges.proofs.whole_records.Statement.{statement}
-use Rattle.ranges.proofs.whole_records.Tie as tie
+use Rattle.ranges.proofs.whole_records.Goals as goal
 
 of_no_width : (allowed count : ℕ) → whole_records 0 allowed count ≡ eqb count 0
 unfolding whole_records
 of_no_width allowed count = rw (mod-zero count, div-zero count, le-leb 0 allowed (omega arith)) (and-true (eqb count 0))
 
-returns : tie.Need-returns
-returns c = rw c.if1.taken (sym (of_no_width c.before.args.allowed c.before.args.count))
+pub returns-then-width-eq0 : goal.returns-then-width-eq0
+returns-then-width-eq0 c = rw c.if-width-eq0.true (sym (of_no_width c.args.allowed c.args.count))
 
-rem-if2 : tie.Need-rem-if2
-rem-if2 c = search rules
-
-div-result : tie.Need-div-result
-div-result c = search rules
-
-returns-2 : tie.Need-returns-2
+pub returns-then-count-width-eq0 : goal.returns-then-count-width-eq0
 unfolding whole_records
-returns-2 c = rw (eq-eqb _ _ c.if2.taken)
+returns-then-count-width-eq0 c = rw (eq-eqb _ _ c.if-count-width-eq0.true)
 
-returns-3 : tie.Need-returns-3
+pub returns : goal.returns
 unfolding whole_records
-returns-3 c = rw (ne_eqb _ _ c.if2.left)
-
-pub whole_records_spec : {M : Type 1} → statement M
-whole_records_spec = tie.close (tie.spec returns rem-if2 div-result returns-2 returns-3)
+returns c = rw (ne_eqb _ _ c.if-count-width-eq0.false)

@@ -4,15 +4,13 @@ use mathlib.Core.Logic.{◌⊎◌, inl, inr, ◌↔◌}
 use mathlib.Core.Path.{◌≡◌, refl, sym, ◌∙◌}
 use native.Mathlib.Nat.{mul_comm, zero-mul}
 use native.Mathlib.Omega.{arith}
-use borrow.Author.Rules.{rules}
 use borrow.Author.Tests.{lt-ltb, le-ltb}
 use lib.Dec.{ltb}
 use Rattle.arithmetic.proofs.Rounding.{down_of, down_greatest}
 use Rattle.arithmetic.proofs.Tests.{less_or_not}
 use Rattle.ranges.specs.Limits.{limits}
 use Rattle.ranges.specs.Outside.{too_long}
-use Rattle.ranges.proofs.is_too_long.Statement.{statement}
-use Rattle.ranges.proofs.is_too_long.Tie as tie
+use Rattle.ranges.proofs.is_too_long.Goals as goal
 
 by_quotient : (length n s : ℕ) → 0 < n → ltb (length / n) s ≡ ltb length (n * s)
 by_quotient length n s some = told (less_or_not length (n * s))
@@ -28,16 +26,10 @@ by_quotient length n s some = told (less_or_not length (n * s))
         beyond (inr h) = absurd (omega (arith, least.0 h, mul_comm n s))
     told (inr inside) = le-ltb _ _ (least.1 (omega (arith, mul_comm n s))) ∙ sym (le-ltb _ _ inside)
 
-returns : tie.Need-returns
+pub returns-then-n-eq0 : goal.returns-then-n-eq0
 unfolding too_long
-returns c = rw (c.if1.taken, zero-mul) refl
+returns-then-n-eq0 c = rw (c.if-n-eq0.true, zero-mul) refl
 
-div-result : tie.Need-div-result
-div-result c = search rules
-
-returns-2 : tie.Need-returns-2
+pub returns : goal.returns
 unfolding too_long
-returns-2 c = let p = c.before.before.args.p in by_quotient limits.longest_hull p.n p.s (omega (arith, c.before.if1.left))
-
-pub is_too_long_spec : {M : Type 1} → statement M
-is_too_long_spec = tie.close (tie.spec returns div-result returns-2)
+returns c = let p = c.args.p in by_quotient limits.longest_hull p.n p.s (omega (arith, c.if-n-eq0.false))
