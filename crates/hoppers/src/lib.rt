@@ -8,20 +8,20 @@ ghost use Rattle.hoppers.specs.Surface.{inertia};
 use ranges::Refusal;
 
 // About the surface's own centre: its inertia in mm⁴, and the moment that its liquid makes, in kg·mm.
-#[derive(Drop)]
+#[derive(Clone, Copy)]
 pub struct FreeSurface {
     pub inertia: u64,
     pub moment: u64,
 }
 
-#[derive(Drop)]
+#[derive(Clone, Copy)]
 pub enum Answer {
     Found(FreeSurface),
     Refused(Refusal),
 }
 
 // The sums over the widths to one side, over their squares and over their cubes.
-#[derive(Drop)]
+#[derive(Clone, Copy)]
 struct Side {
     widths: u64,
     squares: u64,

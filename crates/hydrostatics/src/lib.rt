@@ -20,7 +20,7 @@ use ranges::{Particulars, Refusal};
 use table::{HullSums, OUTSIDE, fill_rows, refused};
 
 // The seven numbers of a row: mm, kg, mm, mm, mm, mm, mm².
-#[derive(Drop)]
+#[derive(Clone, Copy)]
 pub struct Row {
     pub draft: u64,
     pub displacement: u64,
@@ -32,14 +32,14 @@ pub struct Row {
 }
 
 // What making the rows of a hull answers: how many there are, or the refusal.
-#[derive(Drop)]
+#[derive(Clone, Copy)]
 pub enum Rows {
     Made(usize),
     Refused(Refusal),
 }
 
 // A row for display: metres, tonnes, and square metres for the area.
-#[derive(Drop)]
+#[derive(Clone, Copy)]
 pub struct Figures {
     pub draft: f64,
     pub displacement: f64,
@@ -51,7 +51,7 @@ pub struct Figures {
 }
 
 // What displaying a row answers: its figures, or the refusal.
-#[derive(Drop)]
+#[derive(Clone, Copy)]
 pub enum Display {
     Shown(Figures),
     Refused(Refusal),
@@ -65,7 +65,7 @@ pub const MOST_ROWS: usize = ranges::MOST_ROWS;
 pub const ROW_ROOM: usize = ROW_WIDTH * MOST_ROWS;
 
 // How the sums of a hull's rows are worked: waterline by waterline, or station by station as a surveyor does.
-#[derive(Drop)]
+#[derive(Clone, Copy)]
 enum Engine {
     Waterplanes,
     Sections,

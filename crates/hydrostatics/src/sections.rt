@@ -15,7 +15,7 @@ use simpson::{
 
 // A station up to a waterline: the sum over its half-breadths, that of each times its waterline's number, and the half-breadth at
 // the waterline itself.
-#[derive(Drop)]
+#[derive(Clone, Copy)]
 struct Section {
     pub area: u64,
     pub moment: u64,
@@ -23,7 +23,7 @@ struct Section {
 }
 
 // Every station so, and the cubes of the half-breadths at the waterline.
-#[derive(Drop)]
+#[derive(Clone, Copy)]
 struct Sections {
     pub areas: [u64; MOST_STATIONS],
     pub moments: [u64; MOST_STATIONS],

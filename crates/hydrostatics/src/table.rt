@@ -13,7 +13,7 @@ use crate::{MOST_ROWS, ROW_WIDTH, Row, Rows};
 use ranges::{HIGHEST_METACENTRE, Particulars, Refusal};
 
 // The five sums that the row of a waterline is made of: S, Sz and Sx over its waterlines, Q and C of its own.
-#[derive(Drop)]
+#[derive(Clone, Copy)]
 pub(crate) struct Sums {
     pub sum: u64,
     pub sz: u64,
@@ -23,7 +23,7 @@ pub(crate) struct Sums {
 }
 
 // What an engine makes of a hull: whether its half-breadths are in range, and where they are the sums of every row.
-#[derive(Drop)]
+#[derive(Clone, Copy)]
 pub(crate) struct HullSums {
     pub in_range: bool,
     pub sums: [Sums; MOST_ROWS],

@@ -15,7 +15,7 @@ use crate::table::{FIRST_WATERLINE, HullSums, NO_SUMS, OUTSIDE, Sums};
 use ranges::{MOST_STATIONS, MOST_WATERLINES, Particulars};
 
 // What one waterline contributes: the sums of u·y, of u·y times the station's number, and of u·y³.
-#[derive(Drop)]
+#[derive(Clone, Copy)]
 struct Waterline {
     pub q: u64,
     pub x: u64,
@@ -23,7 +23,7 @@ struct Waterline {
 }
 
 // What a sweep over a waterline ends with.
-#[derive(Drop)]
+#[derive(Clone, Copy)]
 enum Gathered {
     Whole(Waterline),
     Outside,

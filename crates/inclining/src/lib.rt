@@ -12,7 +12,7 @@ use loading::{Totalled, Totals};
 use ranges::{INCLINING_WIDTH, Refusal, SHIFT_WIDTH};
 
 // The ship as it lay at the test: displacement in kg, KM in mm and free surface in kg·mm; and the pendulum's length in mm.
-#[derive(Drop)]
+#[derive(Clone, Copy)]
 pub struct Test {
     pub weight: u64,
     pub km: u64,
@@ -21,7 +21,7 @@ pub struct Test {
 }
 
 // GM as measured, in mm; the light ship's weight, in kg, its vertical moment, in kg·mm, and KG, the height of its centre of gravity, in mm.
-#[derive(Drop)]
+#[derive(Clone, Copy)]
 pub struct LightShip {
     pub measured_gm: u64,
     pub weight: u64,
@@ -29,14 +29,14 @@ pub struct LightShip {
     pub vcg: u64,
 }
 
-#[derive(Drop)]
+#[derive(Clone, Copy)]
 pub enum Answer {
     Found(LightShip),
     Refused(Refusal),
 }
 
 // What shifts come to together: the total of weight times distance, and that of deflection.
-#[derive(Drop)]
+#[derive(Clone, Copy)]
 struct Heeling {
     moment: u64,
     deflection: u64,

@@ -13,14 +13,14 @@ use ranges::Refusal;
 use simpson::CurveSum;
 
 // Whether a rule of the criterion is kept.
-#[derive(Drop)]
+#[derive(Clone, Copy)]
 pub enum Rule {
     Met,
     Missed,
 }
 
 // The five rules: where the peak stands, the area up to it, the area from 30 to 40 degrees, GZ at 30 degrees, and GM.
-#[derive(Drop)]
+#[derive(Clone, Copy)]
 pub struct Rules {
     pub peak: Rule,
     pub area_to_t: Rule,
@@ -31,7 +31,7 @@ pub struct Rules {
 
 // The peak's angle in degrees; GM and GZ at 30 degrees in mm; the multiplied sums of GZ from 0 to t, the peak's angle held
 // from 15 to 30, and from 30 to 40 degrees; and the rules.
-#[derive(Drop)]
+#[derive(Clone, Copy)]
 pub struct Profile {
     pub peak_angle: u64,
     pub gm: i64,
@@ -41,14 +41,14 @@ pub struct Profile {
     pub rules: Rules,
 }
 
-#[derive(Drop)]
+#[derive(Clone, Copy)]
 pub enum Answer {
     Found(Profile),
     Refused(Refusal),
 }
 
 // A number of either sign as two whole ones: the second is to be taken off the first.
-#[derive(Drop)]
+#[derive(Clone, Copy)]
 struct Parts {
     whole: u64,
     off: u64,

@@ -10,7 +10,7 @@ use crate::{Reading, rows};
 use hydrostatics::Row;
 
 // A draft and the KM at it, mm.
-#[derive(Drop)]
+#[derive(Clone, Copy)]
 pub(crate) struct Floating {
     pub(crate) draft: u64,
     pub(crate) km: u64,

@@ -22,7 +22,7 @@ mod usable;
 mod weights;
 
 // How the vessel lies.
-#[derive(Drop)]
+#[derive(Clone, Copy)]
 pub enum Heel {
     Unstable,
     Upright,
@@ -32,7 +32,7 @@ pub enum Heel {
 }
 
 // How KM is read where the weight lies strictly between two rows. At a row's own weight that row's KM stands.
-#[derive(Drop)]
+#[derive(Clone, Copy)]
 pub enum Reading {
     // The lesser KM of the two.
     Lesser,
@@ -46,7 +46,7 @@ impl Reading {
 }
 
 // A loading condition: kg, mm and kg·mm.
-#[derive(Drop)]
+#[derive(Clone, Copy)]
 pub struct Condition {
     pub weight: u64,
     pub draft: u64,
@@ -94,14 +94,14 @@ impl Condition {
 }
 
 // What a condition's call answers.
-#[derive(Drop)]
+#[derive(Clone, Copy)]
 pub enum Answer {
     Laden(Condition),
     Refused(Refusal),
 }
 
 // The weight, kg, and the three moments, kg·mm.
-#[derive(Drop)]
+#[derive(Clone, Copy)]
 pub struct Totals {
     pub weight: u64,
     pub longitudinal: u64,
@@ -110,14 +110,14 @@ pub struct Totals {
 }
 
 // What the call for the totals of items answers.
-#[derive(Drop)]
+#[derive(Clone, Copy)]
 pub enum Totalled {
     Total(Totals),
     Refused(Refusal),
 }
 
 // What is aboard, added up: kg, kg·mm; the transverse moment by its two sides.
-#[derive(Drop)]
+#[derive(Clone, Copy)]
 struct Aboard {
     weight: u64,
     longitudinal: u64,

@@ -11,7 +11,7 @@ use crate::{Aboard, weights};
 use ranges::Refusal;
 
 // All tanks of a table together, or the first refusal.
-#[derive(Drop)]
+#[derive(Clone, Copy)]
 pub(crate) enum Trial {
     Passed(Aboard),
     Refused(Refusal),

@@ -34,6 +34,6 @@ fn print_signed(minus: bool, n: u64, room: &mut [u8]) -> usize
     }
     // Where there is no minus, the first digit takes its place.
     room[0] = b'-';
-    bytes::copy(&digits[..count], &mut room[start..]);
+    room[start..length].copy_from_slice(&digits[..count]);
     length
 }

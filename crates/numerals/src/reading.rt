@@ -6,21 +6,21 @@ ghost use Rattle.numerals.specs.Front.{numeral_at};
 ghost use Rattle.numerals.specs.Private.Sign.{said_from, DigitsFrom};
 
 // What a token says.
-#[derive(Drop)]
+#[derive(Clone, Copy)]
 pub enum Number {
     Is(i64),
     Not,
 }
 
 // The number at the front of a text, with the place after it.
-#[derive(Drop)]
+#[derive(Clone, Copy)]
 pub enum Numeral {
     Ends { value: i64, stop: usize },
     None,
 }
 
 // Digits that stand in a text: their value, and the place after them.
-#[derive(Drop)]
+#[derive(Clone, Copy)]
 struct Digits {
     value: u64,
     stop: usize,

@@ -8,7 +8,7 @@ use ranges::{Particulars, Refusal};
 pub use reader::read_file;
 
 // What a file says beside its tables: the particulars, and how many items and tanks there are.
-#[derive(Drop)]
+#[derive(Clone, Copy)]
 pub struct Summary {
     pub particulars: Particulars,
     pub items: usize,
@@ -16,7 +16,7 @@ pub struct Summary {
 }
 
 // What reading a file answers.
-#[derive(Drop)]
+#[derive(Clone, Copy)]
 pub enum Read {
     Sheet(Summary),
     Refused(Refusal),

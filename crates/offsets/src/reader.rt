@@ -10,7 +10,7 @@ use crate::{Read, Summary};
 use ranges::{HALF_BREADTH, ITEM, ITEM_WIDTH, PARTICULAR_COUNT, Refusal, TANK, TANK_WIDTH};
 
 // A whole file's counts: half-breadths, items and tanks.
-#[derive(Drop)]
+#[derive(Clone, Copy)]
 pub enum Parsed {
     Whole {
         points: usize,

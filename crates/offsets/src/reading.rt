@@ -11,14 +11,14 @@ use crate::tokens::Found;
 use ranges::{PARTICULAR_COUNT, PARTICULARS, Particulars, Refusal};
 
 // One number, with the place after it.
-#[derive(Drop)]
+#[derive(Clone, Copy)]
 pub enum One {
     Got { value: i64, next: usize },
     Refused(Refusal),
 }
 
 // Where reading stands: at a place, with the count that was read last, or at a refusal.
-#[derive(Drop)]
+#[derive(Clone, Copy)]
 pub enum Step {
     At { count: usize, next: usize },
     Refused(Refusal),

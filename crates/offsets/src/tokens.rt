@@ -6,7 +6,7 @@ ghost use Rattle.offsets.specs.Private.Steps.{Finds, tokens_at, ends_here, place
 use numerals::Numeral;
 
 // What stands next in a text.
-#[derive(Drop)]
+#[derive(Clone, Copy)]
 pub enum Found {
     End,
     // A number with the place of its first byte and the place after it.

@@ -10,7 +10,7 @@ ghost use Rattle.ranges.specs.Sides.{sides_of};
 ghost use Rattle.ranges.specs.Sizes.{whole_records, item_width, tank_width, most_items, most_tanks};
 
 // A refusal: the paper's number for it, and its place.
-#[derive(Drop)]
+#[derive(Clone, Copy)]
 pub struct Refusal {
     pub number: u64,
     pub place: usize,
@@ -76,7 +76,7 @@ impl Refusal {
 
 // A hull's particulars: n intervals of length, m intervals of draft, s mm between stations, d mm between waterlines, and
 // the water's density in kg/m³.
-#[derive(Drop)]
+#[derive(Clone, Copy)]
 pub struct Particulars {
     pub n: usize,
     pub m: usize,
@@ -86,7 +86,7 @@ pub struct Particulars {
 }
 
 // A signed y in mm from the middle line as its two sides, one of which is 0.
-#[derive(Drop)]
+#[derive(Clone, Copy)]
 pub struct Sides {
     pub port: u64,
     pub starboard: u64,
@@ -167,7 +167,7 @@ pub const ITEM_ROOM: usize = ITEM_WIDTH * MOST_ITEMS;
 pub const TANK_ROOM: usize = TANK_WIDTH * MOST_TANKS;
 
 // The range of a field: its least number from 0 on, its greatest, and whether it reaches as far below 0.
-#[derive(Drop)]
+#[derive(Clone, Copy)]
 struct Bounds(u64, u64, bool);
 
 const EITHER_SIDE: bool = true;

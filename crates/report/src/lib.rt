@@ -13,7 +13,7 @@ use loading::Reading;
 use ranges::Refusal;
 
 // What making a sheet answers: how many bytes its lines take, or that the room is too short for them.
-#[derive(Drop)]
+#[derive(Clone, Copy)]
 pub enum Report {
     Lines(usize),
     Refused(Refusal),

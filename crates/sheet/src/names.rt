@@ -4,7 +4,7 @@ ghost use Rattle.sheet.specs.Names.{Names, Asks};
 use loading::Reading;
 
 // What a word names.
-#[derive(Drop)]
+#[derive(Clone, Copy)]
 pub(crate) enum Named {
     By(Reading),
     Unknown,

@@ -28,7 +28,7 @@ const FIRST_MEETS_SECOND: u64 = 17;
 const LEAST_ORDINATES: usize = 3;
 
 // The sum over a curve, in 24ths of its interval.
-#[derive(Drop)]
+#[derive(Clone, Copy)]
 pub enum CurveSum {
     Sum(u64),
     // Fewer than three ordinates.

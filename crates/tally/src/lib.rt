@@ -15,7 +15,7 @@ use ranges::Refusal;
 mod listing;
 
 // kg, and x, y and z in mm, of any sign and size: the steps try them.
-#[derive(Drop)]
+#[derive(Clone, Copy)]
 pub struct Item {
     pub kg: i64,
     pub x: i64,
@@ -24,14 +24,14 @@ pub struct Item {
 }
 
 // Where an item stands, mm.
-#[derive(Drop)]
+#[derive(Clone, Copy)]
 pub struct Place {
     pub x: i64,
     pub y: i64,
     pub z: i64,
 }
 
-#[derive(Drop)]
+#[derive(Clone, Copy)]
 pub struct Slot {
     pub filled: bool,
     pub item: Item,
@@ -40,21 +40,21 @@ pub struct Slot {
 // How many slots a tally has.
 pub const SLOTS: usize = 32;
 
-#[derive(Drop)]
+#[derive(Clone, Copy)]
 pub struct Tally {
     pub slots: [Slot; SLOTS],
     pub totals: Totals,
 }
 
 // What a step answers.
-#[derive(Drop)]
+#[derive(Clone, Copy)]
 pub enum Answer {
     Done,
     Refused(Refusal),
 }
 
 // What a step hands back: its answer, and the tally after it.
-#[derive(Drop)]
+#[derive(Clone, Copy)]
 pub struct Stepped {
     pub answer: Answer,
     pub tally: Tally,

@@ -11,7 +11,7 @@ use crate::{SLOTS, Slot, Tally};
 use loading::{Totalled, Totals};
 
 // A table of items, and how many of its numbers count.
-#[derive(Drop)]
+#[derive(Clone, Copy)]
 pub(crate) struct Listed {
     pub(crate) numbers: [i64; ranges::ITEM_ROOM],
     pub(crate) count: usize,

@@ -11,7 +11,7 @@ pub(crate) const NUMBERS: u64 = 1_000;
 const LONGEST_NAME: usize = 21;
 
 // A call that has cases of its own.
-#[derive(Drop)]
+#[derive(Clone, Copy)]
 pub(crate) enum Call {
     Tally,
     Hopper,
@@ -21,7 +21,7 @@ pub(crate) enum Call {
 
 // What a file holds: the offsets of NNN.txt and the sheet of NNN.out, or of straight-line-NNN.txt and straight-line-NNN.out where KM is read
 // so; what is given to a call and its answer, CALL-NNN.in and CALL-NNN.out, where CALL is tally, hopper, inclining or profile.
-#[derive(Drop)]
+#[derive(Clone, Copy)]
 pub(crate) enum Kind {
     Offsets(Reading),
     Sheet(Reading),

@@ -21,7 +21,7 @@ pub(crate) const LONGEST_INPUT: usize = ranges::LONGEST_FILE + 1;
 
 // What trying a number shows: whether it has a file, whether that one's sheet differs from the answer beside it, and whether what is
 // read of it, written and read again, is changed.
-#[derive(Drop)]
+#[derive(Clone, Copy)]
 struct Trial {
     there: bool,
     differs: bool,

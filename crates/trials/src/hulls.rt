@@ -10,7 +10,7 @@ use ranges::Particulars;
 const FEWEST: u64 = 101;
 
 // What a number shows: whether it has a hull, and whether the two calculations make anything else of it.
-#[derive(Drop)]
+#[derive(Clone, Copy)]
 struct Beside {
     there: bool,
     differs: bool,

@@ -4,7 +4,7 @@ use crate::{places, tables};
 use inclining::{Answer, LightShip, Test};
 
 // A test, and the place after its numbers.
-#[derive(Drop)]
+#[derive(Clone, Copy)]
 struct Tested {
     test: Test,
     next: usize,

@@ -16,14 +16,14 @@ const TEN: usize = 10;
 const GREAT: usize = 100_000_000_000_000_000;
 
 // A number of a text, and the place after it.
-#[derive(Drop)]
+#[derive(Clone, Copy)]
 pub(crate) struct Number {
     pub(crate) value: i64,
     pub(crate) next: usize,
 }
 
 // The same for a whole number.
-#[derive(Drop)]
+#[derive(Clone, Copy)]
 pub(crate) struct Whole {
     pub(crate) value: usize,
     pub(crate) next: usize,

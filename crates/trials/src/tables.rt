@@ -8,7 +8,7 @@ use crate::places::NOWHERE;
 pub(crate) const ROOM: usize = 160;
 
 // Whole numbers, how many they are, and the place after them.
-#[derive(Drop)]
+#[derive(Clone, Copy)]
 pub(crate) struct Wholes {
     pub(crate) numbers: [u64; ROOM],
     pub(crate) count: usize,
@@ -16,7 +16,7 @@ pub(crate) struct Wholes {
 }
 
 // The same with a sign.
-#[derive(Drop)]
+#[derive(Clone, Copy)]
 pub(crate) struct Signed {
     pub(crate) numbers: [i64; ROOM],
     pub(crate) count: usize,

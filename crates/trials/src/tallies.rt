@@ -5,14 +5,14 @@ use loading::Totals;
 use tally::{Answer, Item, Place, Stepped, Tally};
 
 // Where an item is to stand, and the place after its numbers.
-#[derive(Drop)]
+#[derive(Clone, Copy)]
 struct Placed {
     place: Place,
     next: usize,
 }
 
 // A step that was taken, and the place after its numbers.
-#[derive(Drop)]
+#[derive(Clone, Copy)]
 struct Taken {
     stepped: Stepped,
     next: usize,

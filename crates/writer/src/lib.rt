@@ -11,7 +11,7 @@ ghost use Rattle.writer.specs.Written.{line, lines, counted, section_text, text_
 use ranges::{Particulars, Refusal};
 
 // What writing a file answers: the length of its text, or the refusal.
-#[derive(Drop)]
+#[derive(Clone, Copy)]
 pub enum Written {
     Wrote(usize),
     Refused(Refusal),
