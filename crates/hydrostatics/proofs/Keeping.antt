@@ -13,9 +13,8 @@ use native.Mathlib.Omega.{arith}
 use lib.ListN.{get_or}
 use Rattle.ranges.specs.Sizes.{rows_over}
 use Rattle.ranges.specs.declared.Particulars.{Particulars}
-use Rattle.simpson.specs.Curve.{curve}
 use Rattle.simpson.proofs.Curves.{curve_same}
-use Rattle.hydrostatics.specs.Hull.{S, Sz, Sx, Q, C}
+use Rattle.hydrostatics.specs.Hull.{Q, C}
 use Rattle.hydrostatics.specs.Row.{sums_at, waterline_of}
 use Rattle.hydrostatics.specs.Private.Hull.{Filled, InRange}
 use Rattle.hydrostatics.specs.Private.Sums.{no_sums, MakesSums}

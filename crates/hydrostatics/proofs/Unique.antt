@@ -11,7 +11,6 @@ use Rattle.hydrostatics.specs.Display as Display
 use Rattle.hydrostatics.specs.Promise as Promise
 use Rattle.hydrostatics.specs.Promise.{MakesRows}
 use Rattle.hydrostatics.specs.declared.Display.{Display as Displayed}
-use Rattle.hydrostatics.specs.declared.Display.TheVariants as Displayed
 use Rattle.hydrostatics.specs.declared.Row.{Row}
 use Rattle.hydrostatics.specs.declared.Rows.{Rows}
 use Rattle.hydrostatics.specs.declared.Rows.TheVariants.{Made, Refused}

@@ -1,5 +1,6 @@
 // The rows of a hull, by waterplanes and by sections, and their display.
 #![tactic(auto)]
+
 mod sections;
 mod table;
 mod waterplanes;

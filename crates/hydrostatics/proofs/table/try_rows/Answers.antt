@@ -1,0 +1,22 @@
+-- The rows before row r have passed; a row that does not pass is the first. Assumes nothing.
+use native.Mathlib.Omega.{arith}
+use Rattle.hydrostatics.proofs.Passing.{passing_none, passing_more, passing_all, too_low, too_high, refusal}
+use Rattle.hydrostatics.proofs.table.try_rows.Goals as goal
+
+pub loop-r-init : goal.loop-r-init
+loop-r-init c = (omega arith, passing_none)
+
+pub row_from-row-requires : goal.row_from-row-requires
+row_from-row-requires c = let given = c.requires in (given.particulars, given.each _ (omega arith))
+
+pub returns-then-displacement-before : goal.returns-then-displacement-before
+returns-then-displacement-before c = refusal (too_low c.loop-r.invariant.1 c.row_from-row.ensures c.if-displacement-before.true _ (omega arith)) c.refused.ensures
+
+pub returns-then-row-gt-HIGHEST_METACENTRE : goal.returns-then-row-gt-HIGHEST_METACENTRE
+returns-then-row-gt-HIGHEST_METACENTRE c = refusal (too_high c.loop-r.invariant.1 c.row_from-row.ensures c.if-displacement-before.false c.if-row-gt-HIGHEST_METACENTRE.true _ (omega arith)) c.refused-then-row-gt-HIGHEST_METACENTRE.ensures
+
+pub loop-r-preserved : goal.loop-r-preserved
+loop-r-preserved c = (omega arith, passing_more c.loop-r.invariant.1 c.row_from-row.ensures c.if-displacement-before.false c.if-row-gt-HIGHEST_METACENTRE.false)
+
+pub returns : goal.returns
+returns c = passing_all c.loop-r.invariant.1 (omega arith)
