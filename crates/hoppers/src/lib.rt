@@ -1,5 +1,6 @@
 // The free surface of a tank that is not a rectangle, by its widths to port and to starboard of the middle line.
 #![tactic(auto)]
+
 ghost use Rattle.std.specs.Prelude.{◌≡◌};
 ghost use Rattle.hoppers.specs.Hopper.{counts_fit, outside, MakesSurface};
 ghost use Rattle.hoppers.specs.Private.Side.{SideInRange, SurfaceInRange, side_of};

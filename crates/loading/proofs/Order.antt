@@ -43,7 +43,6 @@ use Rattle.loading.specs.declared.Condition.{Condition}
 use Rattle.loading.specs.declared.Reading.{Reading}
 use Rattle.loading.specs.declared.floating.Floating.{Floating}
 use Rattle.loading.specs.declared.tanks.Trial.{Trial}
-use Rattle.loading.specs.declared.tanks.Trial.TheVariants as Trial
 use Rattle.loading.proofs.Itemised.{items_fitting}
 use Rattle.loading.proofs.Moments.{weight_is, condition_is}
 use Rattle.loading.proofs.Tables.{last_row_of_table}

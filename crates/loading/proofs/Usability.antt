@@ -17,7 +17,6 @@ use borrow.Author.Tests.{ltb-true, eqb-true}
 use lib.Dec.{eqb}
 use lib.IntN.{pos}
 use lib.ListN.{length}
-use Rattle.arithmetic.specs.Choice.{if◌then◌else◌}
 use Rattle.arithmetic.proofs.Tests.{both}
 use Rattle.hydrostatics.specs.Row.{numbers_of, waterline_of}
 use Rattle.hydrostatics.specs.Usable.{seven, row_in, spacing, in_range, spaced, rises, metacentre_fits, usable_row, usable_up_to}

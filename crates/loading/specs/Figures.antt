@@ -24,20 +24,20 @@ pub data Figure : Type 0 where
 
 abbrev pub trial_figures : List Figure
 trial_figures =
-    (multipliersOver 2 are (8 ∷ 32 ∷ 8 ∷ []))
-    ∷ (multipliersOver 3 are (9 ∷ 27 ∷ 27 ∷ 9 ∷ []))
-    ∷ (multipliersOver 4 are (8 ∷ 32 ∷ 16 ∷ 32 ∷ 8 ∷ []))
-    ∷ (multipliersOver 5 are (8 ∷ 32 ∷ 17 ∷ 27 ∷ 27 ∷ 9 ∷ []))
-    ∷ (multipliersOver 7 are (8 ∷ 32 ∷ 16 ∷ 32 ∷ 17 ∷ 27 ∷ 27 ∷ 9 ∷ []))
-    ∷ (cubicOver 2 gives 96)
-    ∷ (cubicOver 3 gives 486)
-    ∷ (cubicOver 5 gives 3_750)
-    ∷ (tankWith 5_000 has 1_333_334)
-    ∷ (tankWith 8_000 has 0)
-    ∷ (tankWith 0 has 0)
-    ∷ (tankWith 7_999 has 0)
-    ∷ (tankWith 7_840 has 0)
-    ∷ (tankWith 7_839 has 1_333_334)
+    (multipliers_over 2 are (8 ∷ 32 ∷ 8 ∷ []))
+    ∷ (multipliers_over 3 are (9 ∷ 27 ∷ 27 ∷ 9 ∷ []))
+    ∷ (multipliers_over 4 are (8 ∷ 32 ∷ 16 ∷ 32 ∷ 8 ∷ []))
+    ∷ (multipliers_over 5 are (8 ∷ 32 ∷ 17 ∷ 27 ∷ 27 ∷ 9 ∷ []))
+    ∷ (multipliers_over 7 are (8 ∷ 32 ∷ 16 ∷ 32 ∷ 17 ∷ 27 ∷ 27 ∷ 9 ∷ []))
+    ∷ (cubic_over 2 gives 96)
+    ∷ (cubic_over 3 gives 486)
+    ∷ (cubic_over 5 gives 3_750)
+    ∷ (tank_with 5_000 has 1_333_334)
+    ∷ (tank_with 8_000 has 0)
+    ∷ (tank_with 0 has 0)
+    ∷ (tank_with 7_999 has 0)
+    ∷ (tank_with 7_840 has 0)
+    ∷ (tank_with 7_839 has 1_333_334)
     ∷ (KMat 40_000 by Lesser is 1_833)
     ∷ (KMat 40_001 by Lesser is 1_638)
     ∷ (KMat 59_999 by Lesser is 1_638)
@@ -48,7 +48,7 @@ trial_figures =
     ∷ (KMat 50_000 by StraightLine is 1_735)
     ∷ (KMat 70_000 by StraightLine is 1_652)
     ∷ (KMat 80_000 by StraightLine is 1_666)
-    ∷ (sheetHasKM 1_638 andGM pos 681)
+    ∷ (sheet_has_km 1_638 and_gm pos 681)
     ∷ []
 
 -- f at 0, 1, …, n − 1
@@ -79,9 +79,9 @@ sheet_load = record {
 
 -- what the definitions give in a figure's place
 abbrev pub computed : Figure → Figure
-computed (multipliersOver n are row) = multipliersOver n are listed (n + 1) (multiplier n)
-computed (cubicOver n gives sum) = cubicOver n gives curve n (λ i. i ^ 3)
-computed (tankWith kg has surface) = tankWith kg has surface_of rectangle (trial_tank kg)
+computed (multipliers_over n are row) = multipliers_over n are listed (n + 1) (multiplier n)
+computed (cubic_over n gives sum) = cubic_over n gives curve n (λ i. i ^ 3)
+computed (tank_with kg has surface) = tank_with kg has surface_of rectangle (trial_tank kg)
 computed (KMat weight by reading is height) = KMat weight by reading is km_at (paper_rules reading) sheet_table weight
-computed (sheetHasKM height andGM above) =
-    sheetHasKM km (paper_rules default_reading) sheet_table sheet_load andGM gm (paper_rules default_reading) sheet_table sheet_load
+computed (sheet_has_km height and_gm above) =
+    sheet_has_km km (paper_rules default_reading) sheet_table sheet_load and_gm gm (paper_rules default_reading) sheet_table sheet_load

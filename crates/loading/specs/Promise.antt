@@ -8,7 +8,6 @@ use Rattle.loading.specs.declared.Answer.TheVariants.{Laden, Refused}
 use Rattle.loading.specs.declared.Condition.{Condition}
 use Rattle.loading.specs.declared.Reading.{Reading}
 use Rattle.loading.specs.declared.Totalled.{Totalled}
-use Rattle.loading.specs.declared.Totalled.TheVariants as Totalled
 use Rattle.loading.specs.declared.Totals.{Totals}
 
 -- the paper's number and values for each answer

@@ -1,5 +1,6 @@
 // The loading condition: items, tanks and rows in, the condition or its one refusal out.
 #![tactic(auto)]
+
 ghost use Rattle.std.specs.Prelude.{◌≡◌, ◌<◌};
 ghost use Rattle.loading.specs.Private.Aboard.{Bearable};
 ghost use Rattle.loading.specs.Private.Afloat.{RowsUsable};
@@ -178,7 +179,7 @@ fn loaded(reading: Reading, items: &[i64], tanks: &[i64], rows: &[u64], count: u
 
 // The condition of items and tanks over the rows of a hull, by a reading of KM, or the first refusal in the paper's order.
 pub fn condition_by(reading: Reading, items: &[i64], tanks: &[i64], rows: &[u64]) -> Answer
-    ensures* { do l ← (⟦Condition::LEAST_GM⟧).entry; h ← (⟦Condition::HEEL_LIMIT⟧).entry; ⌜ MakesCondition reading l h items.now tanks.now rows.now result ⌝ }
+    ensures { MakesCondition reading Condition.LEAST_GM Condition.HEEL_LIMIT items.now tanks.now rows.now result }
 {
     if !ranges::items_fit(items.len()) {
         return refused(Refusal::WRONG_SIZE, Refusal::ITEM_TABLE);
@@ -203,7 +204,7 @@ pub fn condition_by(reading: Reading, items: &[i64], tanks: &[i64], rows: &[u64]
 
 // The same by the default reading.
 pub fn condition_of(items: &[i64], tanks: &[i64], rows: &[u64]) -> Answer
-    ensures* { do l ← (⟦Condition::LEAST_GM⟧).entry; h ← (⟦Condition::HEEL_LIMIT⟧).entry; ⌜ MakesCondition default_reading l h items.now tanks.now rows.now result ⌝ }
+    ensures { MakesCondition default_reading Condition.LEAST_GM Condition.HEEL_LIMIT items.now tanks.now rows.now result }
 {
     condition_by(Reading::DEFAULT, items, tanks, rows)
 }

@@ -4,19 +4,19 @@
 --     printed_by_sign, length_by_sign     its text is a minus or none, and the digits of its size
 --     Spelled, spelled                    the digits that `io::decimal` wrote are the number's
 --     prints_short                        what a call leaves where the room is too short
---     digits_fit, prints_fits             where it is not: the digits have room after the sign; what is left once they are copied there
+--     digits_fit, prints_fits             where it is not: the part that is lent for the digits is as long as they are; what is left once they are copied there
 -- Assumes nothing.
 use Prim.Native.Nat.{ℕ, zero, suc, ◌+◌, ◌-◌, ◌≤◌, ◌<◌}
 use mathlib.Core.Bool.{Bool, true, false, false≢true}
 use mathlib.Core.Path.{◌≡◌, refl, sym, ap, ap₂, ◌∙◌}
-use mathlib.Core.List.{List, [], ◌∷◌, ◌++◌}
+use mathlib.Core.List.{List, [], ◌∷◌, ◌++◌, append_assoc}
 use native.Mathlib.Omega.{arith}
 use lib.IntN.{ℤ, pos, negsuc, nat_abs}
-use lib.ListN.{length, take, drop, set, length-append, length-drop, length-set}
-use lib.Seq.{take-length, drop-set-lt}
+use lib.ListN.{length, take, drop, set, length-append, length-set}
+use lib.Seq.{take_at, drop-set-lt}
 use mir.Val.{bool_byte}
+use borrow.Rule.Slice.PartMut.{mid_len, Post-is}
 use Rattle.arithmetic.specs.Signed.{is_negative}
-use Rattle.arithmetic.proofs.Parts.{part_end, part_filled}
 use Rattle.arithmetic.proofs.Room.{laid_fits, laid_short}
 use Rattle.io.specs.Counts.{IsPrefixLen}
 use Rattle.io.specs.Digits.{last_digits as digits, IsDigitCount}
@@ -28,9 +28,12 @@ use Rattle.numerals.proofs.Decimal.{decimal_is_digits, some_of_decimal}
 pub prints_unique : {v : ℤ} {room after after' : List ℕ} {r r' : ℕ} → Prints v room after r → Prints v room after' r' → (after ≡ after') × (r ≡ r')
 prints_unique p q = (p.left ∙ sym q.left, p.length_is ∙ sym q.length_is)
 
--- the part of a list from a place to its end, as it is lent
-abbrev pub part_from : ℕ → List ℕ → List ℕ
-part_from a l = take (length l - a) (drop a l)
+-- the part of a list from a place to another, as it is lent, and what lies after it
+abbrev pub part : ℕ → ℕ → List ℕ → List ℕ
+part a b l = take (b - a) (drop a l)
+
+abbrev pub after_part : ℕ → ℕ → List ℕ → List ℕ
+after_part a b l = drop (b - a) (drop a l)
 
 -- ---- by sign and size
 pub by_sign : (v : ℤ) → with_sign (is_negative v) (nat_abs v) ≡ v
@@ -59,10 +62,10 @@ pub record Spelled (n count : ℕ) (digits : List ℕ) : Type 0 where
   pub text_is : take count digits ≡ decimal n
   pub count_is : count ≡ length (decimal n)
 
-pub spelled : (n count : ℕ) (room : List ℕ) → IsPrefixLen count room × (IsDigitCount 10 1 n count × (take count room ≡ digits 10 count n)) → Spelled n count room
-spelled n count room e =
-    let text_is : take count room ≡ decimal n = e.1.1 ∙ decimal_is_digits n count e.1.0 in
-    record { text_is = text_is; count_is = e.0.1 ∙ ap length text_is }
+pub spelled : (n count : ℕ) (room : List ℕ) → IsPrefixLen count room → IsDigitCount 10 1 n count → take count room ≡ digits 10 count n → Spelled n count room
+spelled n count room within few wrote =
+    let text_is : take count room ≡ decimal n = wrote ∙ decimal_is_digits n count few in
+    record { text_is = text_is; count_is = within.1 ∙ ap length text_is }
 
 module _ (sign : Bool) (n : ℕ) (some : sign ≡ true → 0 < n) where
   pub printed_by_sign : printed (with_sign sign n) ≡ sign_text sign ++ decimal n
@@ -85,30 +88,33 @@ module _ (sign : Bool) (n : ℕ) (some : sign ≡ true → 0 < n) where
     pub prints_short : length room < bool_byte sign + count → Prints (with_sign sign n) room room (bool_byte sign + count)
     prints_short h = record { length_is = length_is; left = sym (laid_short _ room (omega (arith, length_is))) }
 
-    -- whatever is in the first place, the part from the digits' start on has room for them
-    pub digits_fit : (b : ℕ) → bool_byte sign + count ≤ length room → length (take count digits) ≤ length (part_from (bool_byte sign) (set room 0 b))
+    -- whatever is in the first place, the part from the digits' start on that is lent for them is as long as they are
+    pub digits_fit : (b : ℕ) → bool_byte sign + count ≤ length room → length (part (bool_byte sign) (bool_byte sign + count) (set room 0 b)) ≡ length (take count digits)
     digits_fit b h =
-        rw (part_end (bool_byte sign) (set room 0 b), d.text_is)
-        (omega (arith, d.count_is, length-drop (bool_byte sign) (set room 0 b), length-set room 0 b))
+        rw d.text_is
+        (mid_len (bool_byte sign) (bool_byte sign + count) (set room 0 b) (omega (arith, length-set room 0 b)) ∙ omega (arith, d.count_is))
 
     -- a minus went into the first place, and the digits into that part, which came back
     pub prints_fits :
         (back : List ℕ)
         → bool_byte sign + count ≤ length room
-        → back ≡ take (length (take count digits)) (take count digits) ++ drop (length (take count digits)) (part_from (bool_byte sign) (set room 0 minus))
-        → Prints (with_sign sign n) room (take (bool_byte sign) (set room 0 minus) ++ (back ++ drop (length (set room 0 minus) - bool_byte sign) (drop (bool_byte sign) (set room 0 minus)))) (bool_byte sign + count)
+        → back ≡ take count digits
+        → Prints (with_sign sign n) room (take (bool_byte sign) (set room 0 minus) ++ (back ++ after_part (bool_byte sign) (bool_byte sign + count) (set room 0 minus))) (bool_byte sign + count)
     prints_fits back h e =
         let start = bool_byte sign in
         let signed = set room 0 minus in
         let text = printed (with_sign sign n) in
-        let k = length (decimal n) in
-        let part = part_from start signed in
-        let more : 0 < start + k = omega (arith, some_of_decimal n) in
-        let copied = ap (λ l. take (length l) l ++ drop (length l) part) d.text_is ∙ ap (λ l. l ++ drop k part) (take-length (decimal n)) in
+        let more : 0 < start + count = omega (arith, d.count_is, some_of_decimal n) in
+        let front : take start signed ≡ sign_text sign =
+        ap (take start) (sign_first sign room (omega arith)) ∙ take_at (sign_text sign) (drop start signed) start (length_of_sign sign) in
+        let within : start ≤ start + count = omega arith in
+        let behind : after_part start (start + count) signed ≡ drop (start + count) room =
+        Post-is start (start + count) signed within ∙ drop-set-lt (start + count) room 0 minus more in
         record {
           length_is = length_is;
           left =
-              part_filled start k (sign_text sign) (decimal n) signed signed back (length_of_sign sign) (sign_first sign room (omega (arith, d.count_is))) (e ∙ copied)
-              ∙ ap₂ ◌++◌ (sym printed_by_sign) (drop-set-lt (start + k) room 0 minus more ∙ ap (λ j. drop j room) (sym length_by_sign))
+              ap₂ ◌++◌ front (ap₂ ◌++◌ (e ∙ d.text_is) (behind ∙ ap (λ j. drop j room) length_is))
+              ∙ sym (append_assoc (sign_text sign) (decimal n) (drop (length text) room))
+              ∙ ap (λ l. l ++ drop (length text) room) (sym printed_by_sign)
               ∙ sym (laid_fits text room (omega (arith, length_is)));
         }

@@ -71,7 +71,7 @@ value_from_lt n [] e = omega (arith, pow-zero 10)
 value_from_lt n (b ∷ l) e =
     let t = both (is_digit b) (all_digits l) e in
     let low : n * 10 + (b - zero_digit) + 1 ≤ (n + 1) * 10 = omega (arith, digit_range b t.0) in
-    rw (pow-succ' 10 (length l), ← mul_assoc) (lt_of_lt_of_le (value_from_lt _ l t.1) (mul-le-mul_right (10 ^ length l) low))
+    rw (pow-succ' 10 (length l), ← mul_assoc) (lt_of_lt_of_le (value_from_lt (n * 10 + (b - zero_digit)) l t.1) (mul-le-mul_right (10 ^ length l) low))
 
 pub value_lt : (l : List ℕ) → all_digits l ≡ true → value l < 10 ^ length l
 value_lt l e = omega (arith, value_from_lt 0 l e)

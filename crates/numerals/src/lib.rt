@@ -1,5 +1,6 @@
 // A number as text: read at a place of a text, read from a token, and printed into lent room.
 #![tactic(auto)]
+
 mod printing;
 mod reading;
 
