@@ -8,7 +8,7 @@ use mathlib.Core.Path.{◌≡◌, sym, subst}
 use mathlib.Core.List.{List, [], ◌∷◌}
 use mathlib.Core.Logic.{◌⊎◌, inl, inr, ⊎_elim}
 use Prim.Native.Nat.{ℕ, zero, suc, ◌+◌, ◌-◌, ◌*◌, ◌/◌, ◌≤◌, ◌<◌}
-use native.Mathlib.Nat.{add-zero, mul-le-mul, mul-le-mul_right}
+use native.Mathlib.Nat.{add-mul, add-zero, mul-le-mul, mul-le-mul_right}
 use native.Mathlib.Omega.{arith}
 use lib.ListN.{length, get_or}
 use Rattle.arithmetic.proofs.Ring.{ring}
@@ -35,7 +35,7 @@ module _ (test : Test) (some : 0 < test.weight) where
   -- top and bottom of the fraction, one shift more
   top_more : (s : Shift) (shifts : List Shift) → (unrounded_gm test (s ∷ shifts)).top ≡ s.weight * s.distance * test.pendulum + (unrounded_gm test shifts).top
   unfolding unrounded_gm total
-  top_more s shifts = simp ring (omega arith)
+  top_more s shifts = add-mul (s.weight * s.distance) _ test.pendulum
 
   bottom_more : (s : Shift) (shifts : List Shift) → (unrounded_gm test (s ∷ shifts)).bottom ≡ test.weight * s.deflection + (unrounded_gm test shifts).bottom
   unfolding unrounded_gm total

@@ -1,5 +1,6 @@
 // The inclining test: GM as measured by shifting weights, and the light ship that follows from it.
 #![tactic(auto)]
+
 ghost use Rattle.std.specs.Prelude.{◌≡◌, ◌+◌, ◌*◌, ◌/◌, ◌≤◌, length};
 ghost use Rattle.ranges.specs.Sizes.{shift_width};
 ghost use Rattle.loading.specs.Items.{totals_of_items};

@@ -189,7 +189,7 @@ alike_after both_refused before = before
 tells_through : {list : List Line} {t : Tally} → Tells list t → (history : List Step) → Tells (through entered list history) (through taken t history)
 unfolding through
 tells_through tells [] = tells
-tells_through tells (step ∷ rest) = tells_through (alike_after (alike_step step tells) tells) rest
+tells_through {list = list} {t = t} tells (step ∷ rest) = tells_through {list = unless_refused (entered step list) list} {t = unless_refused (taken step t) t} (alike_after (alike_step step tells) tells) rest
 
 tells_after : (history : List Step) → Tells (list_after history) (tally_after history)
 tells_after history = tells_through tells_empty history

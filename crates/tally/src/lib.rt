@@ -1,6 +1,7 @@
 // The running tally: 32 slots, each empty or with an item, and the totals of what is aboard.
 // A step takes the tally by value and hands it back beside its answer; a refused step hands the same tally back.
 #![tactic(auto)]
+
 ghost use Rattle.std.specs.Prelude.{◌≡◌};
 ghost use Rattle.loading.specs.Promise.{paper};
 ghost use Rattle.tally.specs.Condition.{condition_aboard};

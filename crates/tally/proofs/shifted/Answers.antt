@@ -1,0 +1,51 @@
+-- The first tests; then the slot is tested, and its item put at its new place. Assumes nothing.
+use mathlib.Core.Path.{sym, ap, subst, ◌∙◌}
+use native.Mathlib.Omega.{arith}
+use borrow.Author.Tests.{not-true, not-false}
+use Rattle.tally.specs.Private.Listing.{Fitting}
+use Rattle.tally.specs.Private.Trying.{Tried}
+use Rattle.tally.specs.Steps.{moved_to, with_slot}
+use Rattle.tally.specs.Tally.{no_item, holding}
+use Rattle.tally.specs.declared.Item.{Item}
+use Rattle.tally.proofs.Held.{all_slots}
+use Rattle.tally.proofs.Stepping.{Passed, passed_all, shifts_tried, shifts_empty, shifts_done, fitting_shift, refused_as, done_as}
+use Rattle.tally.proofs.shifted.Goals as goal
+use Rattle.tally.proofs.shifted.Goals.{After-tried-refusal, Else-refusal-ne-PASSED}
+
+tried : (c : After-tried-refusal) → let s = c.args in Tried s.tally (moved_to s.place no_item) s.slot c.tried-refusal.result
+tried c =
+    let s = c.args in
+    subst (λ (i : Item). Tried s.tally i s.slot c.tried-refusal.result) (c.moved_to.ensures ∙ ap (moved_to s.place) c.no_item.ensures) c.tried-refusal.ensures
+
+passed : (c : Else-refusal-ne-PASSED) → let s = c.args in Passed s.tally (moved_to s.place no_item) s.slot
+passed c =
+    let s = c.args in
+    passed_all (subst (λ (i : Item). Tried s.tally i s.slot c.tried-refusal.result) (c.moved_to.ensures ∙ ap (moved_to s.place) c.no_item.ensures) c.tried-refusal.ensures)
+    c.if-refusal-ne-PASSED.false
+
+pub returns-then-refusal-ne-PASSED : goal.returns-then-refusal-ne-PASSED
+returns-then-refusal-ne-PASSED c =
+    let s = c.args in
+    refused_as s.tally c.refused.ensures (shifts_tried s.slot s.place s.tally (tried (goal.at.returns-then-refusal-ne-PASSED c).After-tried-refusal) c.if-refusal-ne-PASSED.true)
+
+pub offset_bounds-slots-slot : goal.offset_bounds-slots-slot
+offset_bounds-slots-slot c = record { fits = omega (arith, (passed (goal.at.offset_bounds-slots-slot c).Else-refusal-ne-PASSED).there) }
+
+pub bounds-slots-slot : goal.bounds-slots-slot
+bounds-slots-slot c = omega (arith, (passed (goal.at.bounds-slots-slot c).Else-refusal-ne-PASSED).there)
+
+pub returns-then-not-was : goal.returns-then-not-was
+returns-then-not-was c =
+    let s = c.args in
+    refused_as s.tally c.refused-then-not-was.ensures (shifts_empty s.slot s.place s.tally (passed (goal.at.returns-then-not-was c).Else-refusal-ne-PASSED) (not-true _ c.if-not-was.true))
+
+pub with_slot-requires : goal.with_slot-requires
+with_slot-requires c =
+    subst (λ (i : Item). Fitting c.args.tally c.args.slot (holding i)) (sym c.moved_to-item.ensures)
+    (fitting_shift c.args.slot c.args.place c.args.tally (passed (goal.at.with_slot-requires c).Else-refusal-ne-PASSED) (not-false _ c.if-not-was.false) (all_slots c.args.tally c.well_formed.0))
+
+pub returns : goal.returns
+returns c =
+    let s = c.args in
+    let after = c.with_slot.ensures ∙ ap (λ (i : Item). with_slot s.tally s.slot (holding i)) c.moved_to-item.ensures in
+    c.done.ensures ∙ done_as s.tally after (shifts_done s.slot s.place s.tally (passed (goal.at.returns c).Else-refusal-ne-PASSED) (not-false _ c.if-not-was.false))
