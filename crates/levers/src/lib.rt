@@ -1,5 +1,6 @@
 // The righting levers of a supply vessel, and the criterion that they are held against.
 #![tactic(auto)]
+
 ghost use Rattle.std.specs.Prelude.{◌≡◌, ◌+◌, ◌-◌, ◌≤◌, ◌<◌};
 ghost use Rattle.ranges.specs.Fields.{most, metacentre};
 ghost use Rattle.simpson.specs.Curve.{curve_ℤ};
