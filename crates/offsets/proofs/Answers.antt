@@ -15,7 +15,6 @@ use lib.IntN.{ℤ, nat_abs}
 use lib.ListN.{length, take, drop, length-map}
 use lib.Seq.{length-take-le}
 use Rattle.arithmetic.proofs.Choice.{chosen}
-use Rattle.ranges.specs.Fields.{particulars}
 use Rattle.ranges.specs.Outcome.{answered, refused, answer_with, left_with}
 use Rattle.ranges.specs.Outside.{particulars_of}
 use Rattle.ranges.specs.Refusals.{file_too_long, wrong_size, half_breadth_table, item_table, tank_table}

@@ -14,7 +14,7 @@ use lib.ListN.{length, get_or}
 use Rattle.arithmetic.proofs.Choice.{chosen, if_either}
 use Rattle.numerals.specs.Number.{number_of}
 use Rattle.numerals.specs.declared.reading.Number.{Number}
-use Rattle.numerals.specs.declared.reading.Number.TheVariants.{Is}
+use Rattle.numerals.specs.declared.reading.Number.TheVariants.{Is, Not}
 use Rattle.numerals.proofs.Numbers.{every_byte, some_of_number}
 use Rattle.offsets.specs.Tokens.{Token, number, is_separator, said, closed, tokens_by, tokens_from}
 use Rattle.offsets.proofs.Words.{Clear, none, more, digit_no_separator, run_takes, closed_is}
@@ -47,6 +47,7 @@ record First (n : Number) (vs : List ℤ) (ts : List Token) : Type 0 where
 first_said : (n : Number) (place : ℕ) {vs : List ℤ} {ts : List Token} → Says vs (said place n ∷ ts) → First n vs ts
 unfolding said
 first_said (Is v) place (followed {vs = vs} s) = record { v = v; more_numbers = vs; number_is = refl; numbers_are = refl; rest_says = s }
+first_said Not place x = elim x [ ]
 
 module _ (separates : ℕ → Bool) (says : List ℕ → Number) where
   -- a run of bytes at the end of the text

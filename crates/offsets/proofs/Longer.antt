@@ -18,7 +18,7 @@ use Rattle.ranges.specs.Limits.{Limits}
 use Rattle.ranges.specs.Outcome.{Outcome, answered, refused, and_then}
 use Rattle.ranges.specs.Outside.{first_outside, numbers_of, particulars_of}
 use Rattle.ranges.specs.Refusals.{out_of_range}
-use Rattle.ranges.specs.Sizes.{room_for_half_breadths_by, room_for_half_breadths, room_for_items, room_for_tanks, longest_file}
+use Rattle.ranges.specs.Sizes.{room_for_half_breadths_by, room_for_half_breadths, room_for_items, room_for_tanks}
 use Rattle.ranges.proofs.Longer.{Wider, Widened, none, both, Longer, particulars_widened, not_too_long_still, document_one, longer_now, no_length_then}
 use Rattle.ranges.proofs.Outcomes.{refused_not, not_refused, was_passed, answered_then}
 use Rattle.offsets.specs.Back.{RoomForAnyFile, ReadBack}

@@ -1,5 +1,6 @@
 // The offset file and its reader. Nothing here knows of hulls.
 #![tactic(auto)]
+
 mod reader;
 mod reading;
 mod tokens;

@@ -89,6 +89,7 @@ fn ends_here(text: &[u8], place: usize) -> bool
     true
 }
 
+#[tactic(auto, unfolding(crate::specs::Tokens::is_separator))]
 fn is_separator(b: u8) -> bool
     ensures { result ≡ is_separator b }
 {

@@ -16,7 +16,7 @@ use native.Mathlib.Nat.{add-zero}
 use native.Mathlib.Omega.{arith}
 use lib.IntN.{ℤ, nat_abs}
 use lib.ListN.{length, take, drop, length-append, length-drop, take-append-drop}
-use lib.Seq.{length-take-le, take-length, take_at, drop_at, drop-drop}
+use lib.Seq.{length-take-le, take_at, drop_at, drop-drop}
 use mir.Syntax.{w64}
 use mir.Val.{Fits, SFits}
 use Rattle.arithmetic.specs.Signed.{is_negative}
@@ -59,10 +59,15 @@ puts_part most said was back at few ready e =
           ∙ append_assoc (take at was) said (drop (at + length said) was);
     }
 
--- the same as `bytes::copy` leaves it
-pub puts_copied : (said was back : List ℕ) (at : ℕ) → Ready (length said) was at → back ≡ take (length said) said ++ drop (length said) (part_from at was) → Puts (length said) said was at (with_part at was back) (at + length said)
-puts_copied said was back at ready e =
-    puts_part (length said) said was back at (omega arith) ready (e ∙ ap (λ l. l ++ drop (length said) (part_from at was)) (take-length said))
+-- a piece that was copied into its place
+pub puts_copied : (said was back : List ℕ) (at : ℕ) → back ≡ said → Puts (length said) said was at (take at was ++ (back ++ drop (at + length said - at) (drop at was))) (at + length said)
+puts_copied said was back at e =
+    let many : at + length said - at ≡ length said = omega arith in
+    record {
+      few = omega arith;
+      next_is = refl;
+      left = rw (e, many, drop-drop) refl;
+    }
 
 module _ {most : ℕ} {said was : List ℕ} {at : ℕ} {after : List ℕ} {next : ℕ} (p : Puts most said was at after next) where
   pub puts_le : (more : ℕ) → most ≤ more → Puts more said was at after next

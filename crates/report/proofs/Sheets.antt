@@ -10,34 +10,31 @@
 --     report_straight               the same, put straight into room for any sheet
 --     lines_within, never_short     so many bytes of the room hold them; room for the longest sheet is never too short
 -- Assumes nothing.
-use Prim.Native.Nat.{ℕ, ◌+◌, ◌*◌, ◌-◌, ◌/◌, ◌≤◌, ◌<◌}
+use Prim.Native.Nat.{ℕ, ◌*◌, ◌/◌, ◌≤◌, ◌<◌}
 use mathlib.Core.Path.{◌≡◌, refl, sym, ap, ◌∙◌}
 use mathlib.Core.List.{List, ◌++◌, map}
 use native.Mathlib.Omega.{arith}
 use borrow.Author.Tests.{lt-ltb, le-ltb, ltb-false}
 use lib.IntN.{ℤ, nat_abs}
 use lib.ListN.{length, take, drop}
-use lib.Seq.{take_at, take-length}
+use lib.Seq.{take_at}
 use Rattle.arithmetic.proofs.Choice.{chosen}
 use Rattle.arithmetic.proofs.Room.{laid_fits, laid_short}
 use Rattle.hydrostatics.specs.Promise as Rows
 use Rattle.hydrostatics.specs.Promise.{MakesRows, table_after, row_count}
 use Rattle.hydrostatics.specs.Rows.{rows_of}
 use Rattle.hydrostatics.specs.declared.Rows.{Rows as RowsAnswer}
-use Rattle.hydrostatics.specs.declared.Rows.TheVariants as RowsAnswer
 use Rattle.hydrostatics.proofs.Passed.{counted}
 use Rattle.hydrostatics.proofs.Usable.{Served, served}
 use Rattle.loading.specs.Condition.{condition_by}
 use Rattle.loading.specs.Promise as Loading
 use Rattle.loading.specs.declared.Answer.{Answer}
-use Rattle.loading.specs.declared.Answer.TheVariants as Answer
 use Rattle.loading.specs.declared.Condition.{Condition}
 use Rattle.loading.specs.declared.Reading.{Reading}
 use Rattle.offsets.specs.File.{Contents}
 use Rattle.offsets.specs.Reader as Reader
 use Rattle.offsets.specs.Reader.{Reads, reader_of, summary_of}
 use Rattle.offsets.specs.declared.Read.{Read as ReadAnswer}
-use Rattle.offsets.specs.declared.Read.TheVariants as ReadAnswer
 use Rattle.offsets.specs.declared.Summary.{Summary}
 use Rattle.offsets.proofs.WasRead.{half_breadths_read, items_read, tanks_read, contents_read}
 use Rattle.offsets.proofs.Sound.{hull_most, points_le}
@@ -184,7 +181,7 @@ module _ (reading : Reading) (text : List ℕ) {lines after : List ℕ} {n : ℕ
   pub report_fits :
       (room left : List ℕ)
       → n ≤ length room
-      → left ≡ take (length (take n after)) (take n after) ++ drop (length (take n after)) room
+      → left ≡ take n after ++ drop n room
       → Reports reading text room left (Lines n)
   unfolding report_by
   report_fits room left h e =
@@ -192,8 +189,7 @@ module _ (reading : Reading) (text : List ℕ) {lines after : List ℕ} {n : ℕ
       record {
         answer_is = rw length_is (simp (le-ltb (length room) (length (sheet_by reading text)) fits, chosen));
         left =
-            e ∙ ap (λ l. take (length l) l ++ drop (length l) room) front
-            ∙ ap (λ l. l ++ drop (length (sheet_by reading text)) room) (take-length (sheet_by reading text))
+            e ∙ ap (λ l. l ++ drop n room) front ∙ ap (λ k. sheet_by reading text ++ drop k room) length_is
             ∙ sym (laid_fits (sheet_by reading text) room fits);
       }
 

@@ -1,6 +1,6 @@
 -- The lines of the sheet. "R: the seven row numbers. C: weight, draft, KM, LCG, vertical moment, free surface, GM, transverse moment, the outcome's word,
 -- 1 for a pass and 0 otherwise. One space stands between fields, and a line feed ends each line. A refusal prints "E", number, place."
-use Rattle.std.specs.Prelude.{ℕ, ◌+◌, Bool, true, false, List, [], ◌∷◌, ◌++◌, map, ℤ, pos}
+use Rattle.std.specs.Prelude.{ℕ, Bool, true, false, List, [], ◌∷◌, ◌++◌, map, ℤ, pos}
 use Rattle.hydrostatics.specs.Row.{numbers_of}
 use Rattle.hydrostatics.specs.declared.Row.{Row}
 use Rattle.loading.specs.declared.Condition.{Condition}

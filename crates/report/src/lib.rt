@@ -1,5 +1,6 @@
 // From a file's bytes to the sheet's bytes, as one call.
 #![tactic(auto)]
+
 mod lines;
 mod sheet;
 
@@ -35,7 +36,7 @@ pub const LONGEST_SHEET: usize = MOST_ROWS * MOST_ROW_LINE + MOST_CONDITION_LINE
 // Makes the sheet of a file's text by a reading of KM, and puts its lines into the lent room, where they fit.
 pub fn make_report_by(reading: Reading, text: &[u8], room: &mut [u8]) -> Report
     ensures reports { Reports reading text.now room.old room.new result }
-    ensures text_len_bound { length (sheet_by reading text.now) ≤ LONGEST_SHEET }
+    ensures longest { length (sheet_by reading text.now) ≤ LONGEST_SHEET }
 {
     // Room that holds any sheet takes the lines as they are made.
     if LONGEST_SHEET <= room.len() {
@@ -47,7 +48,7 @@ pub fn make_report_by(reading: Reading, text: &[u8], room: &mut [u8]) -> Report
 // The same by the default reading.
 pub fn make_report(text: &[u8], room: &mut [u8]) -> Report
     ensures reports { Reports default_reading text.now room.old room.new result }
-    ensures text_len_bound { length (sheet_by default_reading text.now) ≤ LONGEST_SHEET }
+    ensures longest { length (sheet_by default_reading text.now) ≤ LONGEST_SHEET }
 {
     make_report_by(Reading::DEFAULT, text, room)
 }
@@ -55,7 +56,7 @@ pub fn make_report(text: &[u8], room: &mut [u8]) -> Report
 // The sheet by lines of its own, which are copied where they fit.
 fn make_apart(reading: Reading, text: &[u8], room: &mut [u8]) -> Report
     ensures reports { Reports reading text.now room.old room.new result }
-    ensures text_len_bound { length (sheet_by reading text.now) ≤ LONGEST_SHEET }
+    ensures longest { length (sheet_by reading text.now) ≤ LONGEST_SHEET }
 {
     let mut lines = [0u8; LONGEST_SHEET];
     let length = sheet::put_sheet(reading, text, &mut lines);
@@ -65,6 +66,6 @@ fn make_apart(reading: Reading, text: &[u8], room: &mut [u8]) -> Report
             place: length,
         });
     }
-    bytes::copy(&lines[..length], room);
+    room[..length].copy_from_slice(&lines[..length]);
     Report::Lines(length)
 }

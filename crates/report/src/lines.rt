@@ -15,7 +15,7 @@ fn put(text: &mut [u8], at: usize, said: &[u8]) -> usize
     requires { Ready (length said.now) text.old at }
     ensures { Puts (length said.now) said.now text.old at text.new result }
 {
-    bytes::copy(said, &mut text[at..]);
+    text[at..at + said.len()].copy_from_slice(said);
     at + said.len()
 }
 
