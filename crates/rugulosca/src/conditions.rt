@@ -8,9 +8,9 @@ use crate::ANSWERED;
 use loading::{Answer, Condition, Heel, Reading};
 
 // How many numbers of a condition have no sign, and how many have one.
-pub(crate) const WHOLE_COUNT: usize = 8;
+pub const WHOLE_COUNT: usize = 8;
 
-pub(crate) const SIGNED_COUNT: usize = 2;
+pub const SIGNED_COUNT: usize = 2;
 
 // How the vessel lies, by number.
 fn lie(heel: Heel) -> u64
@@ -79,8 +79,7 @@ pub(crate) fn tell(
 }
 
 // The condition of items and tanks over the rows of a hull, with the lesser KM between two rows.
-#[unsafe(no_mangle)]
-pub extern "C" fn rugulosca_condition(
+pub fn rugulosca_condition(
     items: &[i64],
     tanks: &[i64],
     rows: &[u64],
@@ -96,8 +95,7 @@ pub extern "C" fn rugulosca_condition(
 }
 
 // The same with KM on the straight line between two rows.
-#[unsafe(no_mangle)]
-pub extern "C" fn rugulosca_condition_straight_line(
+pub fn rugulosca_condition_straight_line(
     items: &[i64],
     tanks: &[i64],
     rows: &[u64],

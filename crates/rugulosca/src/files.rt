@@ -12,11 +12,10 @@ use ranges::PARTICULAR_COUNT;
 use writer::Written;
 
 // The particulars, and the counts of items and of tanks.
-const SUMMARY_COUNT: usize = PARTICULAR_COUNT + 2;
+pub const SUMMARY_COUNT: usize = PARTICULAR_COUNT + 2;
 
 // Reads a file into the lent tables: its five particulars and its counts of items and of tanks.
-#[unsafe(no_mangle)]
-pub extern "C" fn rugulosca_read(
+pub fn rugulosca_read(
     text: &[u8],
     half_breadths: &mut [u64],
     items: &mut [i64],
@@ -49,8 +48,7 @@ pub extern "C" fn rugulosca_read(
 }
 
 // Writes a file into the lent room, and how many bytes it takes.
-#[unsafe(no_mangle)]
-pub extern "C" fn rugulosca_write(
+pub fn rugulosca_write(
     particulars: &[u64; PARTICULAR_COUNT],
     half_breadths: &[u64],
     items: &[i64],

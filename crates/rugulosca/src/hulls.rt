@@ -41,8 +41,7 @@ fn tell(answer: Rows, count: &mut usize, place: &mut usize) -> u64
 }
 
 // The rows of a hull, and how many there are.
-#[unsafe(no_mangle)]
-pub extern "C" fn rugulosca_rows(
+pub fn rugulosca_rows(
     half_breadths: &[u64],
     particulars: &[u64; PARTICULAR_COUNT],
     rows: &mut [u64],
@@ -57,8 +56,7 @@ pub extern "C" fn rugulosca_rows(
 }
 
 // The same by the plain calculation: station areas first, and then along the length.
-#[unsafe(no_mangle)]
-pub extern "C" fn rugulosca_rows_by_sections(
+pub fn rugulosca_rows_by_sections(
     half_breadths: &[u64],
     particulars: &[u64; PARTICULAR_COUNT],
     rows: &mut [u64],
@@ -92,8 +90,7 @@ fn row_of(seven: &[u64; ROW_WIDTH]) -> Row
 }
 
 // One row in metres, tonnes and square metres.
-#[unsafe(no_mangle)]
-pub extern "C" fn rugulosca_display(
+pub fn rugulosca_display(
     row: &[u64; ROW_WIDTH],
     figures: &mut [f64; ROW_WIDTH],
     place: &mut usize,

@@ -8,7 +8,7 @@ use inclining::{Answer, Test};
 use ranges::INCLINING_WIDTH;
 
 // GM as measured; the light ship's weight, vertical moment and KG.
-const LIGHT_SHIP_COUNT: usize = 4;
+pub const LIGHT_SHIP_COUNT: usize = 4;
 
 // Four numbers as a test.
 fn test_of(four: &[u64; INCLINING_WIDTH]) -> Test
@@ -23,8 +23,7 @@ fn test_of(four: &[u64; INCLINING_WIDTH]) -> Test
 }
 
 // The light ship of a test, its shifts and the items to take off and to put on; each shift's own GM is left in `gms`.
-#[unsafe(no_mangle)]
-pub extern "C" fn rugulosca_light_ship(
+pub fn rugulosca_light_ship(
     test: &[u64; INCLINING_WIDTH],
     shifts: &[u64],
     off: &[i64],

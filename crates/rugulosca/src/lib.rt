@@ -1,14 +1,15 @@
 // The calls for other languages, by numbers and slices alone. A call returns 0 and leaves its values, or returns the number of
 // its refusal and leaves the refusal's place; what it does not leave stays as it was. include/rugulosca.h says the same in C.
 #![tactic(auto)]
-mod conditions;
-mod files;
-mod hulls;
-mod inclinings;
-mod profiles;
-mod sheets;
-mod surfaces;
-mod tallies;
+
+pub mod conditions;
+pub mod files;
+pub mod hulls;
+pub mod inclinings;
+pub mod profiles;
+pub mod sheets;
+pub mod surfaces;
+pub mod tallies;
 
 // What a call returns that is not refused.
 const ANSWERED: u64 = 0;

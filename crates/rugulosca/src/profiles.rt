@@ -8,9 +8,9 @@ use crate::ANSWERED;
 use levers::{ANGLES, Answer, Profile, Rule};
 
 // The peak's angle and the five rules; GM, GZ at 30 degrees and the two sums.
-const WHOLE_COUNT: usize = 6;
+pub const WHOLE_COUNT: usize = 6;
 
-const SIGNED_COUNT: usize = 4;
+pub const SIGNED_COUNT: usize = 4;
 
 // 1 where a rule is met, and 0 where it is missed.
 fn met(rule: Rule) -> u64
@@ -43,8 +43,7 @@ fn wholes_of(profile: Profile) -> [u64; WHOLE_COUNT]
 }
 
 // The profile of KN at each angle, KM and KG; GZ at each angle is left in `gz`.
-#[unsafe(no_mangle)]
-pub extern "C" fn rugulosca_supply_profile(
+pub fn rugulosca_supply_profile(
     kn: &[u64],
     km: u64,
     kg: u64,

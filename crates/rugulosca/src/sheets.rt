@@ -26,13 +26,7 @@ fn tell(answer: Report, count: &mut usize, place: &mut usize) -> u64
 }
 
 // From a file's text to the sheet's lines, and how many bytes they take, with the lesser KM between two rows.
-#[unsafe(no_mangle)]
-pub extern "C" fn rugulosca_report(
-    text: &[u8],
-    room: &mut [u8],
-    count: &mut usize,
-    place: &mut usize,
-) -> u64
+pub fn rugulosca_report(text: &[u8], room: &mut [u8], count: &mut usize, place: &mut usize) -> u64
     ensures tells { Tells (λ n. n) (report_of text.now (length room.old)) count.old count.new place.old place.new result }
     ensures room_after { room.new ≡ laid (sheet_of text.now) room.old }
 {
@@ -41,8 +35,7 @@ pub extern "C" fn rugulosca_report(
 }
 
 // The same with KM on the straight line between two rows.
-#[unsafe(no_mangle)]
-pub extern "C" fn rugulosca_report_straight_line(
+pub fn rugulosca_report_straight_line(
     text: &[u8],
     room: &mut [u8],
     count: &mut usize,

@@ -6,11 +6,10 @@ use crate::ANSWERED;
 use hoppers::Answer;
 
 // The inertia and the moment.
-const SURFACE_COUNT: usize = 2;
+pub const SURFACE_COUNT: usize = 2;
 
 // The free surface of widths to port and to starboard, an interval apart, of a liquid.
-#[unsafe(no_mangle)]
-pub extern "C" fn rugulosca_hopper_surface(
+pub fn rugulosca_hopper_surface(
     port: &[u64],
     starboard: &[u64],
     interval: u64,

@@ -16,13 +16,13 @@ use tally::{Answer, Item, Place, SLOTS, Slot, Stepped, Tally};
 // How many numbers a slot has, whether it is filled and its item's, and how many all slots have.
 const SLOT_WIDTH: usize = 1 + ITEM_WIDTH;
 
-const SLOT_ROOM: usize = SLOT_WIDTH * SLOTS;
+pub const SLOT_ROOM: usize = SLOT_WIDTH * SLOTS;
 
 // How many totals have no sign.
-const TOTAL_COUNT: usize = 3;
+pub const TOTAL_COUNT: usize = 3;
 
 // How many numbers a place has.
-const PLACE_WIDTH: usize = 3;
+pub const PLACE_WIDTH: usize = 3;
 
 // The slot whose numbers stand at place `at`.
 fn slot_in(numbers: &[i64], at: usize) -> Slot
@@ -159,8 +159,7 @@ fn tell_step(
 }
 
 // Loads an item into an empty slot.
-#[unsafe(no_mangle)]
-pub extern "C" fn rugulosca_load(
+pub fn rugulosca_load(
     slots: &mut [i64; SLOT_ROOM],
     totals: &mut [u64; TOTAL_COUNT],
     transverse: &mut i64,
@@ -176,8 +175,7 @@ pub extern "C" fn rugulosca_load(
 }
 
 // Discharges a slot.
-#[unsafe(no_mangle)]
-pub extern "C" fn rugulosca_discharge(
+pub fn rugulosca_discharge(
     slots: &mut [i64; SLOT_ROOM],
     totals: &mut [u64; TOTAL_COUNT],
     transverse: &mut i64,
@@ -192,8 +190,7 @@ pub extern "C" fn rugulosca_discharge(
 }
 
 // Shifts a slot's item to a new place.
-#[unsafe(no_mangle)]
-pub extern "C" fn rugulosca_shift(
+pub fn rugulosca_shift(
     slots: &mut [i64; SLOT_ROOM],
     totals: &mut [u64; TOTAL_COUNT],
     transverse: &mut i64,
@@ -209,8 +206,7 @@ pub extern "C" fn rugulosca_shift(
 }
 
 // The condition of the items aboard and these tanks over the rows of a hull.
-#[unsafe(no_mangle)]
-pub extern "C" fn rugulosca_condition_aboard(
+pub fn rugulosca_condition_aboard(
     slots: &[i64; SLOT_ROOM],
     totals: &[u64; TOTAL_COUNT],
     transverse: i64,

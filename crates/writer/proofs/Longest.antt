@@ -50,8 +50,8 @@ record_times (suc k) fields = record_append fields (records k fields) ∙ omega 
 pub length_of_spelled : {rs : List Range} {vs : List ℤ} {text : List ℕ} → Spells vs text → InRanges rs vs → length text ≤ longest_record rs
 unfolding longest_record
 length_of_spelled empty no_more = omega arith
-length_of_spelled (next {text = text} v b h e s) (and_in {r = r} w i) =
-    omega (arith, length-append (printed v) (b ∷ text), printed_within r v w, length_of_spelled s i)
+length_of_spelled (next {text = text} v b h e s) (and_in {r = r} {rs = rs} w i) =
+    omega (arith, length-append (printed v) (b ∷ text), printed_within r v w, length_of_spelled {rs = rs} s i)
 
 -- ---- the numbers of a file
 in_ranges_append : {rs ss : List Range} {vs ws : List ℤ} → InRanges rs vs → InRanges ss ws → InRanges (rs ++ ss) (vs ++ ws)

@@ -9,7 +9,7 @@ use Prim.Native.Nat.{ℕ, ◌+◌, ◌≤◌, ◌<◌}
 use native.Mathlib.Omega.{arith}
 use lib.IntN.{ℤ}
 use lib.ListN.{length, take, drop}
-use lib.Seq.{sets-eq, take_at, take-length}
+use lib.Seq.{sets-eq, take_at}
 use Rattle.ranges.specs.Private.InRange.{ParticularsInRange}
 use Rattle.ranges.specs.Outcome.{refused, answer_with, left_with}
 use Rattle.ranges.specs.Refusals.{room_too_short}
@@ -115,8 +115,8 @@ module _ {p : Particulars} {h : List ℕ} {i t : List ℤ} {room : List ℕ} whe
     writes_short l a =
         writes_refused (refuses_room p h i t (length room) o (omega (arith, s.count_is))) (rw s.count_is at a)
 
-    pub writes_text : {left : List ℕ} → count ≤ length room → left ≡ take (length (take count array)) (take count array) ++ drop (length (take count array)) room → Writes p h i t room left (Wrote count)
+    pub writes_text : {left : List ℕ} → count ≤ length room → left ≡ take count array ++ drop count room → Writes p h i t room left (Wrote count)
     unfolding answer_with left_with
     writes_text l e =
         let answer = answers p h i t (length room) o (omega (arith, s.count_is)) in
-        record { answer_is = rw (answer, s.count_is); left = e ∙ rw (answer, s.stands, take-length) }
+        record { answer_is = rw (answer, s.count_is); left = e ∙ rw (answer, s.stands, s.count_is) }

@@ -1,5 +1,6 @@
 // The writer. The text is put together in a local array that holds any text, and copied into the lent room where it fits.
 #![tactic(auto)]
+
 ghost use Rattle.std.specs.Prelude.{◌≡◌, ◌++◌, ◌∷◌, [], map, ◌+◌, ◌*◌, ◌/◌, ◌≤◌, ◌<◌, ◌^◌, pos, length, drop};
 ghost use Rattle.numerals.specs.Printed.{printed};
 ghost use Rattle.ranges.specs.Private.InRange.{ParticularsInRange, HalfBreadthsInRange};
@@ -124,7 +125,7 @@ fn write_apart(
     if room.len() < count {
         return refused(Refusal::ROOM_TOO_SHORT, count);
     }
-    bytes::copy(&text[..count], room);
+    room[..count].copy_from_slice(&text[..count]);
     Written::Wrote(count)
 }
 
