@@ -21,9 +21,7 @@ use Rattle.offsets.specs.Reader as Reader
 use Rattle.writer.specs.Writer.{Writes, writer_of, length_of, room_after}
 use Rattle.writer.specs.Writer as Writer
 use Rattle.offsets.specs.declared.Read.{Read}
-use Rattle.offsets.specs.declared.Read.TheVariants as Read
 use Rattle.writer.specs.declared.Written.{Written}
-use Rattle.writer.specs.declared.Written.TheVariants as Written
 use Rattle.offsets.proofs.Numbered.{reader_numbered}
 use Rattle.writer.proofs.Numbered.{writer_numbered}
 use Rattle.offsets.proofs.Unique.{reads_unique}
@@ -39,23 +37,19 @@ use Rattle.hydrostatics.specs.Promise.{MakesRows, row_count, count_of, table_aft
 use Rattle.hydrostatics.specs.Promise as Rows
 use Rattle.hydrostatics.specs.Rows.{rows_of}
 use Rattle.hydrostatics.specs.declared.Display.{Display as Displayed}
-use Rattle.hydrostatics.specs.declared.Display.TheVariants as Displayed
 use Rattle.hydrostatics.specs.declared.Row.{Row}
 use Rattle.hydrostatics.specs.declared.Rows.{Rows as MadeOrNot}
-use Rattle.hydrostatics.specs.declared.Rows.TheVariants as MadeOrNot
 use Rattle.hydrostatics.proofs.Numbered.{rows_numbered, display_numbered}
 use Rattle.hydrostatics.proofs.Unique.{makes_rows_unique, display_unique}
 use Rattle.inclining.specs.Inclining.{MakesLightShip, inclined_of}
 use Rattle.inclining.specs.Inclining as Inclining
 use Rattle.inclining.specs.declared.Answer.{Answer as Inclined}
-use Rattle.inclining.specs.declared.Answer.TheVariants as Inclined
 use Rattle.inclining.specs.declared.Test.{Test}
 use Rattle.inclining.proofs.Numbered.{inclined_numbered}
 use Rattle.inclining.proofs.Unique.{light_ship_unique}
 use Rattle.levers.specs.Promise.{MakesProfile, profile_of}
 use Rattle.levers.specs.Promise as Levers
 use Rattle.levers.specs.declared.Answer.{Answer as Profiled}
-use Rattle.levers.specs.declared.Answer.TheVariants as Profiled
 use Rattle.levers.specs.declared.Profile.{Profile}
 use Rattle.levers.proofs.Numbered.{profile_numbered}
 use Rattle.levers.proofs.Unique.{profile_unique}
@@ -65,7 +59,6 @@ use Rattle.loading.specs.Promise as Loading
 use Rattle.loading.specs.declared.Answer.{Answer as Conditions}
 use Rattle.loading.specs.declared.Answer.TheVariants as Answer
 use Rattle.loading.specs.declared.Totalled.{Totalled}
-use Rattle.loading.specs.declared.Totalled.TheVariants as Totalled
 use Rattle.loading.proofs.Itemised.{totals_numbered, paper_totals_injective}
 use Rattle.loading.proofs.Numbered.{condition_numbered}
 use Rattle.loading.proofs.Unique.{paper_injective, makes_condition_unique}
@@ -82,7 +75,6 @@ use Rattle.report.specs.Promise.{Reports, report_by}
 use Rattle.report.specs.Promise as Report
 use Rattle.report.specs.Sheet.{sheet_by}
 use Rattle.report.specs.declared.Report.{Report as Reported}
-use Rattle.report.specs.declared.Report.TheVariants as Reported
 use Rattle.report.proofs.Numbered.{report_numbered}
 use Rattle.report.proofs.Unique.{reports_unique}
 use Rattle.demands.specs.Answering.{AnswersOrRefuses}

@@ -14,13 +14,10 @@ use Rattle.offsets.specs.Reading.{numbers}
 use Rattle.offsets.specs.Tokens.{Token, number, tokens}
 use Rattle.writer.specs.Writer.{Writes}
 use Rattle.offsets.specs.declared.Read.{Read}
-use Rattle.offsets.specs.declared.Read.TheVariants as Read
 use Rattle.writer.specs.declared.Written.{Written}
-use Rattle.writer.specs.declared.Written.TheVariants as Written
 use Rattle.hydrostatics.specs.Promise.{paper, count_of, table_after, MakesRows}
 use Rattle.hydrostatics.specs.Rows.{rows_by}
 use Rattle.hydrostatics.specs.declared.Rows.{Rows}
-use Rattle.hydrostatics.specs.declared.Rows.TheVariants as Rows
 
 -- each particular in its range
 pub record FiveInRange (p : Particulars) : Type 0 where
