@@ -5,7 +5,8 @@ usage: respell.py FOLDER      FOLDER is a checkout in which port.py has run, and
 
 It turns the names that specs/ and proofs/ declare, in these files, in the clauses of src/, in must-fail/ and in the code spans of README.md and docs/.
 Functions of src/, the names that Rattle makes, and what a library declares under the same name stay. Where two names would fall together, OTHERWISE says
-how one of them is written. It prints what it turned, and each place where two names of one file would become one.
+how one of them is written. Our choice by a test was written as the library's now is, which rt ci refuses: `if a then x else y` becomes `when a then x else y`.
+It prints what it turned, and each place where two names of one file would become one.
 """
 import collections
 import os
@@ -56,6 +57,8 @@ OTHERWISE = {
     "verticalMoment": "vertical_moment_of",
     "transverseMoment": "transverse_moment_of",
     "longitudinalMoment": "longitudinal_moment_of",
+    "if◌then◌else◌": "when◌then◌else◌",
+    "if": "when",
 }
 
 
@@ -63,10 +66,14 @@ def snake(name):
     if name in OTHERWISE:
         return OTHERWISE[name]
     name = name.replace("′", "'")
+    if "◌" in name and name[0] != name[0].upper():
+        return "◌".join(snake(p) if p else p for p in name.split("◌"))
     if name[0].isupper() and "-" not in name:
         return name
     name = re.sub(r"(?<=[a-z0-9])([A-Z])", r"_\1", name)
     name = re.sub(r"(?<=[a-z0-9])ℤ(?=[A-Za-z-]|$)", "_ℤ", name)
+    if name.startswith(":"):
+        return name
     parts = name.replace("-", "_").split("_")
     return "_".join(p if i == 0 and p[:1].isupper() else p.lower() if p != "ℤ" else p for i, p in enumerate(parts))
 
@@ -122,6 +129,8 @@ def main():
             name = m.group(3)
             if name not in answers and snake(name) != name:
                 table[name] = snake(name)
+                if "◌" in name:
+                    table.update({p: snake(p) for p in name.split("◌") if p and snake(p) != p})
     # A name that begins with a sign of the library's is written as the library writes such names.
     imported = re.compile(r"^ *use (\S+?)\.\{([^}]*)\}", re.M)
     clashes = 0

@@ -6,15 +6,15 @@
 use mathlib.Core.Bool.{Bool, true, false}
 use mathlib.Core.Path.{◌≡◌, refl}
 use borrow.Author.Tests.{lt-ltb, le-ltb, le-leb, lt-leb, eq-eqb, ne_eqb}
-use Rattle.arithmetic.specs.Choice.{if◌then◌else◌}
+use Rattle.arithmetic.specs.Choice.{when◌then◌else◌}
 
 module _ {A : Type 0} (a b : A) where
-  pub then_is : if true then a else b ≡ a
-  unfolding if◌then◌else◌
+  pub then_is : when true then a else b ≡ a
+  unfolding when◌then◌else◌
   then_is = refl
 
-  pub else_is : if false then a else b ≡ b
-  unfolding if◌then◌else◌
+  pub else_is : when false then a else b ≡ b
+  unfolding when◌then◌else◌
   else_is = refl
 
 pub ruleset chosen = (then_is, else_is)
@@ -22,7 +22,7 @@ pub ruleset chosen = (then_is, else_is)
 pub ruleset told = (lt-ltb, le-ltb, le-leb, lt-leb, eq-eqb, ne_eqb, chosen)
 
 -- what holds both ways holds of the choice
-pub if_either : {A : Type 0} (P : A → Type 0) {a b : A} (t : Bool) → (t ≡ true → P a) → (t ≡ false → P b) → P (if t then a else b)
-unfolding if◌then◌else◌
+pub if_either : {A : Type 0} (P : A → Type 0) {a b : A} (t : Bool) → (t ≡ true → P a) → (t ≡ false → P b) → P (when t then a else b)
+unfolding when◌then◌else◌
 if_either P true x y = x refl
 if_either P false x y = y refl

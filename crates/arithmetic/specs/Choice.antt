@@ -2,7 +2,7 @@
 -- Its laws: `Choice` of proofs/.
 use Rattle.std.specs.Prelude.{Bool, true, false}
 
-infixr 10 if◌then◌else◌
-unfoldable pub if◌then◌else◌ : {A : Type 0} → Bool → A → A → A
-if true then a else b = a
-if false then a else b = b
+infixr 10 when◌then◌else◌
+unfoldable pub when◌then◌else◌ : {A : Type 0} → Bool → A → A → A
+when true then a else b = a
+when false then a else b = b

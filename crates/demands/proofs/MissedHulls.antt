@@ -9,7 +9,7 @@ use Prim.Native.Nat.{ℕ, ◌+◌, ◌*◌}
 use native.Mathlib.Omega.{arith}
 use lib.IntN.{ℤ, pos}
 use lib.ListN.{length, replicate}
-use Rattle.arithmetic.specs.Choice.{if◌then◌else◌}
+use Rattle.arithmetic.specs.Choice.{when◌then◌else◌}
 use Rattle.arithmetic.specs.Signed.{eq_ℤ}
 use Rattle.arithmetic.specs.Sum.{sum_by}
 use Rattle.arithmetic.proofs.Crossing.{eq_ℤ_same}
@@ -66,7 +66,7 @@ abbrev at_waterlines : List ℕ → List ℕ
 at_waterlines ys = ys ++ ys ++ ys ++ ys ++ ys ++ ys
 
 pub four_missed : Missed (power 4 0) S volume × Missed (power 0 4) S volume × Missed (power 3 0) Sx longitudinal_moment_of × Missed (power 0 3) Sz vertical_moment_of
-unfolding five given_test given_at each eq_ℤ half_breadth termwise monomial sum_by multiplier first_rule second_rule later term S Sx Sz Q C row_from rows_by rows_up_to displacement_before bad_particular_by too_long first_outside outside_from within and_then if◌then◌else◌
+unfolding five given_test given_at each eq_ℤ half_breadth termwise monomial sum_by multiplier first_rule second_rule later term S Sx Sz Q C row_from rows_by rows_up_to displacement_before bad_particular_by too_long first_outside outside_from within and_then when◌then◌else◌
 four_missed = (
   missed (power 4 0) S volume (at_stations (0 ∷ 1 ∷ 16 ∷ 81 ∷ 256 ∷ 625 ∷ []))
       (1_000 ∷ 3_130 ∷ 10_465 ∷ 500 ∷ 59 ∷ 559 ∷ 3_130_833

@@ -8,7 +8,7 @@ use mathlib.Core.Path.{◌≡◌, refl}
 use Prim.Native.Nat.{ℕ, ◌*◌, ◌/◌}
 use native.Mathlib.Omega.{arith}
 use lib.IntN.{pos}
-use Rattle.arithmetic.specs.Choice.{if◌then◌else◌}
+use Rattle.arithmetic.specs.Choice.{when◌then◌else◌}
 use Rattle.arithmetic.specs.Signed.{eq_ℤ}
 use Rattle.arithmetic.specs.Sum.{sum_by}
 use Rattle.arithmetic.proofs.Tests.{each}
@@ -79,7 +79,7 @@ reached :
     × ((v w : ℕ) × (pos v ≡ volume (power 2 3) 2 3) × (pos w ≡ longitudinal_moment_of (power 2 3) 2 3) × (3_750 ≡ 2_500 * w / v))
     × (pos (Sz second_up two 2) ≡ vertical_moment_of (power 3 2) 2 2)
     × ((v w : ℕ) × (pos v ≡ volume (power 3 2) 2 3) × (pos w ≡ vertical_moment_of (power 3 2) 2 3) × (1_125 ≡ 500 * w / v))
-unfolding given_test given_at each eq_ℤ half_breadth termwise sum_by multiplier first_rule second_rule later term S Sx Sz Q C row_from row_in rows_by rows_up_to displacement_before bad_particular_by too_long first_outside outside_from within and_then answer_with left_with if◌then◌else◌
+unfolding given_test given_at each eq_ℤ half_breadth termwise sum_by multiplier first_rule second_rule later term S Sx Sz Q C row_from row_in rows_by rows_up_to displacement_before bad_particular_by too_long first_outside outside_from within and_then answer_with left_with when◌then◌else◌
 reached =
     let of-third =
     sums_and_row 3 3 third (1_000 ∷ 40 ∷ 4_166 ∷ 833 ∷ 3 ∷ 837 ∷ 160_000 ∷ 1_500 ∷ 202 ∷ 4_166 ∷ 1_222 ∷ 27 ∷ 1_250 ∷ 540_000 ∷ [])

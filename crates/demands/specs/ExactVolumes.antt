@@ -1,6 +1,6 @@
 -- What change request 13 asks of hulls given by formula, sentence by sentence. `volume`, `longitudinal_moment_of` and `vertical_moment_of` are 576 times the integrals of y, y·i and y·j.
 use Rattle.std.specs.Prelude.{◌&&◌, ◌≡◌, List, ℕ, ◌+◌, ◌*◌, ◌/◌, ◌^◌, ◌≤◌, ◌<◌, eqb, ℤ, pos, length}
-use Rattle.arithmetic.specs.Choice.{if◌then◌else◌}
+use Rattle.arithmetic.specs.Choice.{when◌then◌else◌}
 use Rattle.ranges.specs.Outcome.{answered}
 use Rattle.ranges.specs.declared.Particulars.{Particulars}
 use Rattle.simpson.specs.Formula.{Formula, GivenBy, monomial, volume, longitudinal_moment_of, vertical_moment_of}
@@ -30,7 +30,7 @@ pub record ExactRow (p : Particulars) (f : Formula) (k : ℕ) (row : Row) : Type
 
 -- y = iᵃ·jᵇ
 abbrev pub power : ℕ → ℕ → Formula
-power a b = record { station_degree = a; waterline_degree = b; coefficient = λ c d. if eqb c a && eqb d b then pos 1 else pos 0 }
+power a b = record { station_degree = a; waterline_degree = b; coefficient = λ c d. when eqb c a && eqb d b then pos 1 else pos 0 }
 
 -- A hull that a formula gives and the call answers, five intervals long and five deep, with a sum that is not the integral.
 -- That is 3,125 there, 5⁵/5 times 5, so that 576 times it is whole.

@@ -6,7 +6,7 @@ use mathlib.Core.Path.{◌≡◌, refl}
 use mathlib.Core.List.{List, [], ◌∷◌, map}
 use lib.IntN.{pow, one}
 use lib.ListN.{replicate}
-use Rattle.arithmetic.specs.Choice.{if◌then◌else◌}
+use Rattle.arithmetic.specs.Choice.{when◌then◌else◌}
 use Rattle.arithmetic.specs.Rounding.{rounded_up}
 use Rattle.arithmetic.specs.Sum.{sum_by}
 use Rattle.ranges.specs.Fields.{within}
@@ -53,5 +53,5 @@ plainest_surfaces =
     ∷ []
 
 pub plainest_surfaces_are : map (λ f. surface_of f.0.port f.0.starboard f.0.h f.0.density) plainest_surfaces ≡ map (λ f. f.1) plainest_surfaces
-unfolding surface_of counts_fit outside outside_then first_outside outside_from within A M I numerator inertia moment rounded_up curve curve_ℤ sum_by multiplier first_rule second_rule later pow one if◌then◌else◌
+unfolding surface_of counts_fit outside outside_then first_outside outside_from within A M I numerator inertia moment rounded_up curve curve_ℤ sum_by multiplier first_rule second_rule later pow one when◌then◌else◌
 plainest_surfaces_are = refl

@@ -1,6 +1,6 @@
 -- What the call that makes a hopper tank's free surface comes to: "7 at 0 for unequal tables or a wrong count, then 4 in order of p, q, h and density, place the position from 0".
 use Rattle.std.specs.Prelude.{ℕ, ◌+◌, ◌≡◌, Bool, not, ◌&&◌, List, [], ◌∷◌, map, eqb, ltb, pos, length}
-use Rattle.arithmetic.specs.Choice.{if◌then◌else◌}
+use Rattle.arithmetic.specs.Choice.{when◌then◌else◌}
 use Rattle.ranges.specs.Fields.{Range, ◌to◌, within, least, most, liquid_density, hopper_width, hopper_interval}
 use Rattle.ranges.specs.Outcome.{Outcome, answered, refused}
 use Rattle.ranges.specs.Outside.{first_outside, outside_then}
@@ -37,8 +37,8 @@ module _ (port starboard : List ℕ) (h density : ℕ) where
 
   unfoldable pub surface_of : Outcome FreeSurface
   surface_of =
-      if not (counts_fit (length port) (length starboard)) then refused wrong_size 0
-      else if ltb outside count then refused out_of_range outside
+      when not (counts_fit (length port) (length starboard)) then refused wrong_size 0
+      else when ltb outside count then refused out_of_range outside
       else answered found
 
 -- the paper's number and values for each answer

@@ -1,7 +1,7 @@
 -- "Hopper tanks have curved sides. Accept a free surface as widths to port p and to starboard q .. at 2 to 10 equal intervals h."
 use Rattle.std.specs.Prelude.{ℕ, ◌+◌, ◌-◌, ◌*◌, ◌^◌, List, eqb, ℤ, pos, nat_abs, ◌-ℤ◌, ◌*ℤ◌, length, get_or}
 use Rattle.std.proofs.Math.IntN.{pow}
-use Rattle.arithmetic.specs.Choice.{if◌then◌else◌}
+use Rattle.arithmetic.specs.Choice.{when◌then◌else◌}
 use Rattle.arithmetic.specs.Rounding.{rounded_up}
 use Rattle.simpson.specs.Curve.{curve, curve_ℤ}
 
@@ -36,7 +36,7 @@ module _ (port starboard : List ℕ) where
 
   -- "The inertia about the surface's own centre is (4·A·I − 3·M²)/(288·A), rounded up, times h; .. with A zero it is 0."
   unfoldable pub inertia : ℕ → ℕ
-  inertia h = if eqb A 0 then 0 else rounded_up (nat_abs numerator) (288 * A) * h
+  inertia h = when eqb A 0 then 0 else rounded_up (nat_abs numerator) (288 * A) * h
 
   -- "the moment is that times liquid density / 1,000,000,000, rounded up"
   unfoldable pub moment : ℕ → ℕ → ℕ

@@ -13,7 +13,7 @@ use borrow.Author.Tests.{leb-false, ltb-false}
 use lib.Dec.{leb, ltb}
 use lib.ListN.{length, drop}
 use native.Mathlib.Numerals.{add-one}
-use Rattle.arithmetic.specs.Choice.{if◌then◌else◌}
+use Rattle.arithmetic.specs.Choice.{when◌then◌else◌}
 use Rattle.ranges.specs.Fields.{highest_metacentre}
 use Rattle.ranges.specs.Outcome.{Outcome, answered, refused, left_with}
 use Rattle.ranges.specs.Refusals.{displacement_not_rising, metacentre_too_high}
@@ -39,8 +39,8 @@ pub record Passed (row : ℕ → Row) (count : ℕ) (numbers : List ℕ) : Type 
 
 module _ {row : ℕ → Row} where
   -- one row more
-  passed_more : (r : ℕ) {before numbers : List ℕ} → Passed row r before → (if leb (row r).displacement (displacement_before row r) then refused displacement_not_rising r
-      else if ltb highest_metacentre (row r).km then refused metacentre_too_high r
+  passed_more : (r : ℕ) {before numbers : List ℕ} → Passed row r before → (when leb (row r).displacement (displacement_before row r) then refused displacement_not_rising r
+      else when ltb highest_metacentre (row r).km then refused metacentre_too_high r
       else answered (before ++ numbers_of (row r))) ≡ answered numbers → Passed row (suc r) numbers
   unfolding numbers_up_to
   passed_more r {before} so e =

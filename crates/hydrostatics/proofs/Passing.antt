@@ -12,7 +12,7 @@ use native.Mathlib.Numerals.{add-one}
 use native.Mathlib.Omega.{arith}
 use borrow.Author.Tests.{le-leb, lt-leb, lt-ltb, le-ltb}
 use lib.Dec.{leb, ltb}
-use Rattle.arithmetic.specs.Choice.{if◌then◌else◌}
+use Rattle.arithmetic.specs.Choice.{when◌then◌else◌}
 use Rattle.arithmetic.proofs.Choice.{chosen}
 use Rattle.ranges.specs.Fields.{highest_metacentre}
 use Rattle.ranges.specs.Outcome.{answered, refused, and_then, answer_with}
@@ -42,8 +42,8 @@ module _ {row : ℕ → Row} where
   passing_none = record { answers = refl; before_is = refl }
 
   module _ {r before : ℕ} (so : Passing row r before) {made : Row} (is : made ≡ row r) where
-    tried : rows_up_to row (suc r) ≡ (if leb made.displacement before then refused displacement_not_rising r
-        else if ltb highest_metacentre made.km then refused metacentre_too_high r
+    tried : rows_up_to row (suc r) ≡ (when leb made.displacement before then refused displacement_not_rising r
+        else when ltb highest_metacentre made.km then refused metacentre_too_high r
         else answered (numbers_up_to row r ++ numbers_of made))
     unfolding rows_up_to and_then
     tried = rw (so.answers, so.before_is, is)

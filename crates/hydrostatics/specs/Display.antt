@@ -3,7 +3,7 @@
 use Rattle.std.specs.Prelude.{ℕ, map, ltb, Float, pos}
 use Rattle.std.specs.Float.Ieee as Ieee
 use Rattle.std.specs.Float.{binary64}
-use Rattle.arithmetic.specs.Choice.{if◌then◌else◌}
+use Rattle.arithmetic.specs.Choice.{when◌then◌else◌}
 use Rattle.ranges.specs.Outcome.{Outcome, answered, refused}
 use Rattle.ranges.specs.Outside.{first_outside}
 use Rattle.ranges.specs.Fields.{row_ranges}
@@ -34,7 +34,7 @@ figures_of row = record {
 unfoldable pub display_of : Row → Outcome Figures
 display_of row =
     let outside = first_outside row_ranges (map pos (numbers_of row)) in
-    if ltb outside row_width then refused out_of_range outside else answered (figures_of row)
+    when ltb outside row_width then refused out_of_range outside else answered (figures_of row)
 
 -- the paper's number and values for each answer
 abbrev pub paper : Display → Outcome Figures

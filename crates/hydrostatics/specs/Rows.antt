@@ -1,6 +1,6 @@
 -- What the rows of a hull come to: the numbers of all rows, or the first refusal in the paper's order.
 use Rattle.std.specs.Prelude.{ℕ, zero, suc, ◌+◌, ◌*◌, not, List, [], ◌++◌, map, leb, ltb, eqb, pos, length}
-use Rattle.arithmetic.specs.Choice.{if◌then◌else◌}
+use Rattle.arithmetic.specs.Choice.{when◌then◌else◌}
 use Rattle.ranges.specs.Fields.{particulars, half_breadth, highest_metacentre}
 use Rattle.ranges.specs.Limits.{Limits, limits}
 use Rattle.ranges.specs.Outcome.{Outcome, answered, refused, and_then}
@@ -23,8 +23,8 @@ module _ (row : ℕ → Row) where
   unfoldable pub rows_up_to : ℕ → Outcome (List ℕ)
   rows_up_to zero = answered []
   rows_up_to (suc r) = and_then (rows_up_to r) (λ before.
-      if leb (row r).displacement (displacement_before r) then refused displacement_not_rising r
-      else if ltb highest_metacentre (row r).km then refused metacentre_too_high r
+      when leb (row r).displacement (displacement_before r) then refused displacement_not_rising r
+      else when ltb highest_metacentre (row r).km then refused metacentre_too_high r
       else answered (before ++ Row.numbers_of (row r)))
 
 module _ (table : List ℕ) (p : Particulars) where
@@ -33,10 +33,10 @@ module _ (table : List ℕ) (p : Particulars) where
   rows_by allowed room =
       let bad_particular = bad_particular_by allowed p in
       let badHalfBreadth = first_outside half_breadth (map pos table) in
-      if ltb bad_particular (length particulars) then refused out_of_range bad_particular
-      else if not (eqb (length table) (points_of p.n p.m)) then refused wrong_size half_breadth_table
-      else if ltb room (row_width * rows_over p.m) then refused wrong_size row_table
-      else if ltb badHalfBreadth (length table) then refused out_of_range (place_of_half_breadths + badHalfBreadth)
+      when ltb bad_particular (length particulars) then refused out_of_range bad_particular
+      else when not (eqb (length table) (points_of p.n p.m)) then refused wrong_size half_breadth_table
+      else when ltb room (row_width * rows_over p.m) then refused wrong_size row_table
+      else when ltb badHalfBreadth (length table) then refused out_of_range (place_of_half_breadths + badHalfBreadth)
       else rows_up_to (row_of table p) (rows_over p.m)
 
   abbrev pub rows_of : ℕ → Outcome (List ℕ)

@@ -1,7 +1,7 @@
 -- "A row is usable if its numbers are in range, row r has draft (r+2)·g with g half of row 0's draft, whole and 10..500,
 -- displacements rise strictly, and KB + BM fits KM as above." All that the loading condition knows of a row table.
 use Rattle.std.specs.Prelude.{ℕ, zero, suc, ◌+◌, ◌*◌, ◌/◌, Bool, true, ◌&&◌, ◌||◌, List, map, ltb, eqb, pos, get_or, take, drop}
-use Rattle.arithmetic.specs.Choice.{if◌then◌else◌}
+use Rattle.arithmetic.specs.Choice.{when◌then◌else◌}
 use Rattle.ranges.specs.Fields.{within, range_of, row_ranges}
 use Rattle.ranges.specs.Outcome.{Outcome, answered, refused, and_then}
 use Rattle.ranges.specs.Outside.{first_outside}
@@ -50,4 +50,4 @@ module _ (rows : List ℕ) where
   -- refusal 10 at the first bad one of the first `count` rows
   unfoldable pub usable_up_to : ℕ → Outcome ℕ
   usable_up_to zero = answered 0
-  usable_up_to (suc r) = and_then (usable_up_to r) (λ good. if usable_row r then answered (suc r) else refused rows_not_usable r)
+  usable_up_to (suc r) = and_then (usable_up_to r) (λ good. when usable_row r then answered (suc r) else refused rows_not_usable r)

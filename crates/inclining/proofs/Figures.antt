@@ -6,7 +6,7 @@ use Prim.Native.Nat.{ℕ, ◌*◌}
 use mathlib.Core.Path.{◌≡◌, refl}
 use mathlib.Core.List.{List, [], ◌∷◌, ◌++◌, map}
 use lib.IntN.{ℤ, pos}
-use Rattle.arithmetic.specs.Choice.{if◌then◌else◌}
+use Rattle.arithmetic.specs.Choice.{when◌then◌else◌}
 use Rattle.arithmetic.specs.Rounding.{rounded_up}
 use Rattle.ranges.specs.Fields.{within, most, test_surface}
 use Rattle.ranges.specs.Outcome.{Outcome, answered, refused, answer_with}
@@ -77,7 +77,7 @@ plainest_tests =
     ∷ []
 
 pub plainest_tests_are : map (λ f. inclined_of (lying f.0.surface) f.0.shifts f.0.off f.0.on f.0.room) plainest_tests ≡ map (λ f. f.1) plainest_tests
-unfolding inclined_of shifts_fit whole_records outside outside_then first_outside outside_from within lightened light_weight light_moment Light.vertical_moment_of gm_measured unrounded_gm own_gms shifts_of total total_ℤ weight longitudinal_moment_of vertical_moment_of transverse_moment_of items_of tanks_of rounded_up answer_with if◌then◌else◌
+unfolding inclined_of shifts_fit whole_records outside outside_then first_outside outside_from within lightened light_weight light_moment Light.vertical_moment_of gm_measured unrounded_gm own_gms shifts_of total total_ℤ weight longitudinal_moment_of vertical_moment_of transverse_moment_of items_of tanks_of rounded_up answer_with when◌then◌else◌
 plainest_tests_are = refl
 
 pub greatest_surface : most test_surface ≡ most_tanks * most_surface

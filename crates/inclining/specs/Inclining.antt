@@ -1,6 +1,6 @@
 -- What the call that makes the light ship comes to: "7 .., 4 in the sheet's order with the number's position from 0 as place, then 20 .., 21".
 use Rattle.std.specs.Prelude.{ℕ, ◌+◌, ◌/◌, ◌%◌, ◌≡◌, Bool, not, ◌&&◌, List, [], ◌∷◌, map, eqb, ltb, ℤ, pos, length}
-use Rattle.arithmetic.specs.Choice.{if◌then◌else◌}
+use Rattle.arithmetic.specs.Choice.{when◌then◌else◌}
 use Rattle.ranges.specs.Fields.{Range, ◌to◌, within, item, inclining, shift}
 use Rattle.ranges.specs.Outcome.{Outcome, answered, refused, answer_with, left_with}
 use Rattle.ranges.specs.Outside.{first_outside, outside_then}
@@ -70,11 +70,11 @@ module _ (test : Test) (shifts : List ℕ) (off on : List ℤ) where
   -- with so much room for the GMs
   unfoldable pub inclined_of : ℕ → Outcome Inclined
   inclined_of room =
-      if not (shifts_fit (length shifts)) then refused wrong_size shift_table
-      else if not (items_fit (length off)) then refused wrong_size off_table
-      else if not (items_fit (length on)) then refused wrong_size on_table
-      else if ltb room (length shifts / shift_width) then refused wrong_size gm_table
-      else if ltb outside (count shifts off on) then refused out_of_range outside
+      when not (shifts_fit (length shifts)) then refused wrong_size shift_table
+      else when not (items_fit (length off)) then refused wrong_size off_table
+      else when not (items_fit (length on)) then refused wrong_size on_table
+      else when ltb room (length shifts / shift_width) then refused wrong_size gm_table
+      else when ltb outside (count shifts off on) then refused out_of_range outside
       else inclined
 
 -- the paper's number and values for each answer

@@ -1,7 +1,7 @@
 -- The light ship: the ship as it lay at the test, less what is to be taken off, with what is to be put on.
 use Rattle.std.specs.Prelude.{ℕ, ◌*◌, ℤ, pos, nat_abs, ◌+ℤ◌, ◌-ℤ◌, ◌*ℤ◌}
 use Rattle.std.specs.Int.Signed.{le_z}
-use Rattle.arithmetic.specs.Choice.{if◌then◌else◌}
+use Rattle.arithmetic.specs.Choice.{when◌then◌else◌}
 use Rattle.arithmetic.specs.Rounding.{rounded_up}
 use Rattle.arithmetic.specs.Signed.{is_negative}
 use Rattle.ranges.specs.Outcome.{Outcome, answered, refused}
@@ -50,6 +50,6 @@ module _ (test : Test) (off on : Totals) where
     -- "20 when the light weight is 0 or less, 21 when its moment is negative, both at 0"
     unfoldable pub lightened : Outcome LightShip
     lightened =
-        if le_z light_weight (pos 0) then refused no_light_weight 0
-        else if is_negative light_moment then refused light_moment_negative 0
+        when le_z light_weight (pos 0) then refused no_light_weight 0
+        else when is_negative light_moment then refused light_moment_negative 0
         else answered light_ship

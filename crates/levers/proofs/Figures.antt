@@ -7,7 +7,7 @@ use mathlib.Core.Path.{◌≡◌, refl}
 use mathlib.Core.List.{List, [], ◌∷◌, map}
 use lib.IntN.{ℤ, pos, negsuc}
 use lib.ListN.{replicate}
-use Rattle.arithmetic.specs.Choice.{if◌then◌else◌}
+use Rattle.arithmetic.specs.Choice.{when◌then◌else◌}
 use Rattle.arithmetic.specs.Rounding.{rounded_up}
 use Rattle.arithmetic.specs.Sum.{sum_by}
 use Rattle.ranges.specs.Fields.{within}
@@ -73,7 +73,7 @@ plainest_profiles =
     ∷ []
 
 pub plainest_profiles_are : map (λ f. profile_of f.0.kn f.0.km f.0.kg) plainest_profiles ≡ map (λ f. f.1) plainest_profiles
-unfolding profile_of outside outside_then first_outside outside_from within products lever peak_up_to held Q at_least rounded_up curve_ℤ sum_by multiplier first_rule second_rule later if◌then◌else◌
+unfolding profile_of outside outside_then first_outside outside_from within products lever peak_up_to held Q at_least rounded_up curve_ℤ sum_by multiplier first_rule second_rule later when◌then◌else◌
 plainest_profiles_are = refl
 
 -- ---- rounding moves the peak: 15 degrees leads 10 by 1 mm, and they tie when KG is 1 mm lower
@@ -84,7 +84,7 @@ tying_at10 =
 pub peak_turned :
     (profile_of tying_at10 4_000 3_001 ≡ is 15 (pos 999) (pos 580) (pos 29_673) (pos 27_360) (five Met Met Met Met Met))
     × (profile_of tying_at10 4_000 3_000 ≡ is 10 (pos 1_000) (pos 581) (pos 29_700) (pos 27_408) (five Missed Met Met Met Met))
-unfolding profile_of outside outside_then first_outside outside_from within products lever peak_up_to held Q at_least rounded_up curve_ℤ sum_by multiplier first_rule second_rule later if◌then◌else◌
+unfolding profile_of outside outside_then first_outside outside_from within products lever peak_up_to held Q at_least rounded_up curve_ℤ sum_by multiplier first_rule second_rule later when◌then◌else◌
 peak_turned = (refl, refl)
 
 -- 20 degrees leads 15, and they tie: t falls from 20 to 15, where less area is gathered and more is asked for
@@ -94,5 +94,5 @@ tying_at15 = 0 ∷ 363 ∷ 723 ∷ 1_079 ∷ 1_330 ∷ 1_571 ∷ 1_801 ∷ 2_019
 pub area_turned :
     (profile_of tying_at15 4_000 3_010 ≡ is 20 (pos 990) (pos 296) (pos 18_368) (pos 14_016) (five Met Met Met Met Met))
     × (profile_of tying_at15 4_000 3_009 ≡ is 15 (pos 991) (pos 296) (pos 10_800) (pos 14_048) (five Met Missed Met Met Met))
-unfolding profile_of outside outside_then first_outside outside_from within products lever peak_up_to held Q at_least rounded_up curve_ℤ sum_by multiplier first_rule second_rule later if◌then◌else◌
+unfolding profile_of outside outside_then first_outside outside_from within products lever peak_up_to held Q at_least rounded_up curve_ℤ sum_by multiplier first_rule second_rule later when◌then◌else◌
 area_turned = (refl, refl)

@@ -15,7 +15,7 @@ use borrow.Author.Tests.{eqb-true}
 use lib.Dec.{eqb, lit≤}
 use lib.IntN.{ℤ, pos, ◌-ℤ◌}
 use lib.ListN.{length, get_or, get_or-map}
-use Rattle.arithmetic.specs.Choice.{if◌then◌else◌}
+use Rattle.arithmetic.specs.Choice.{when◌then◌else◌}
 use Rattle.arithmetic.specs.Rounding.{rounded_up}
 use Rattle.arithmetic.specs.Signed.{nearest}
 use Rattle.arithmetic.proofs.Crossing.{back}
@@ -31,7 +31,7 @@ use Rattle.levers.proofs.Comparing.{value_back}
 
 -- ---- the products
 pub sine_le : (i : ℕ) → sine i ≤ million
-unfolding first_outside outside_from within if◌then◌else◌
+unfolding first_outside outside_from within when◌then◌else◌
 sine_le = wholes_in_range (0 to million) sines (lit≤ tt)
 
 module _ (kg : ℕ) where

@@ -1,7 +1,7 @@
 -- "the alternative criterion in source document 001": its five rules, and the report that "names each rule met or missed".
 use Rattle.std.specs.Prelude.{ℕ, ◌-◌, ◌*◌, ℤ, pos, ◌-ℤ◌, ◌*ℤ◌}
 use Rattle.std.specs.Int.Signed.{le_z}
-use Rattle.arithmetic.specs.Choice.{if◌then◌else◌}
+use Rattle.arithmetic.specs.Choice.{when◌then◌else◌}
 use Rattle.levers.specs.Levers.{peak, Q, t}
 use Rattle.levers.specs.Sines.{degrees, number_at}
 use Rattle.levers.specs.declared.Profile.{Profile}
@@ -33,7 +33,7 @@ abbrev pub area_unit : ℕ
 area_unit = 24 * 57_296
 
 unfoldable pub at_least : ℕ → ℤ → Rule
-at_least least v = if le_z (pos least) v then Met else Missed
+at_least least v = when le_z (pos least) v then Met else Missed
 
 -- an area of so many mm·rad, by the multiplied sum
 abbrev pub area_at_least : ℕ → ℤ → Rule

@@ -1,7 +1,7 @@
 -- The righting levers GZ, their peak, and their multiplied sums.
 use Rattle.std.specs.Prelude.{ℕ, zero, suc, ◌+◌, ◌-◌, ◌*◌, List, [], ◌∷◌, map, ltb, ℤ, pos, ◌-ℤ◌, get_or}
 use Rattle.std.specs.Int.Signed.{lt_z}
-use Rattle.arithmetic.specs.Choice.{if◌then◌else◌}
+use Rattle.arithmetic.specs.Choice.{when◌then◌else◌}
 use Rattle.arithmetic.specs.Rounding.{rounded_up}
 use Rattle.simpson.specs.Curve.{curve_ℤ}
 use Rattle.levers.specs.Sines.{sines, million, angle_count, degrees, number_at}
@@ -29,7 +29,7 @@ module _ (gz : ℕ → ℤ) where
   -- "The peak is the first greatest GZ": of the angles up to a number; with one angle more it moves there where GZ is greater there
   unfoldable pub peak_up_to : ℕ → ℕ
   peak_up_to zero = 0
-  peak_up_to (suc i) = if lt_z (gz (peak_up_to i)) (gz (suc i)) then suc i else peak_up_to i
+  peak_up_to (suc i) = when lt_z (gz (peak_up_to i)) (gz (suc i)) then suc i else peak_up_to i
 
   abbrev pub peak : ℕ
   peak = peak_up_to (angle_count - 1)
@@ -40,7 +40,7 @@ module _ (gz : ℕ → ℤ) where
 
 -- "t the peak's angle, but 15 if below and 30 if beyond"
 unfoldable pub held : ℕ → ℕ
-held angle = if ltb angle 15 then 15 else if ltb 30 angle then 30 else angle
+held angle = when ltb angle 15 then 15 else when ltb 30 angle then 30 else angle
 
 abbrev pub t : (ℕ → ℤ) → ℕ
 t gz = held (degrees (peak gz))

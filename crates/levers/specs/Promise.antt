@@ -1,6 +1,6 @@
 -- What the call that makes a supply vessel's profile comes to: "7 at 0, then 4 by angle, KM, KG (places 0..14)".
 use Rattle.std.specs.Prelude.{ℕ, ◌+◌, ◌≡◌, not, List, [], ◌∷◌, map, eqb, ltb, ℤ, pos, length}
-use Rattle.arithmetic.specs.Choice.{if◌then◌else◌}
+use Rattle.arithmetic.specs.Choice.{when◌then◌else◌}
 use Rattle.ranges.specs.Fields.{cross_curve, heights}
 use Rattle.ranges.specs.Outcome.{Outcome, answered, refused, value_after}
 use Rattle.ranges.specs.Outside.{first_outside, outside_then}
@@ -23,8 +23,8 @@ module _ (kn : List ℕ) (km kg : ℕ) where
 
   unfoldable pub profile_of : Outcome Profile
   profile_of =
-      if not (eqb (length kn) angle_count) then refused wrong_size 0
-      else if ltb outside count then refused out_of_range outside
+      when not (eqb (length kn) angle_count) then refused wrong_size 0
+      else when ltb outside count then refused out_of_range outside
       else answered (profile (GZ kn kg) (GM km kg))
 
 -- the paper's number and values for each answer

@@ -13,7 +13,7 @@ use native.Mathlib.Omega.{arith}
 use borrow.Author.Tests.{ltb-false}
 use lib.IntN.{ℤ}
 use lib.Signed.{◌≤ℤ◌}
-use Rattle.arithmetic.specs.Choice.{if◌then◌else◌}
+use Rattle.arithmetic.specs.Choice.{when◌then◌else◌}
 use Rattle.arithmetic.specs.Rounding.{rounded_up}
 use Rattle.hydrostatics.specs.declared.Row.{Row}
 use Rattle.ranges.specs.Outcome.{Outcome, answered, refused, and_then}
@@ -67,8 +67,8 @@ module _ (t : Table) (l : Load) (w : Within t (weight l)) where
 
 -- ---- all that is tried before is the same for both
 module _ {A : Type 0} (R : A → A → Type 0) where
-  alike_if : (test : Bool) (number place : ℕ) {x y : Outcome A} → (test ≡ false → Alike R x y) → Alike R (if test then refused number place else x) (if test then refused number place else y)
-  unfolding if◌then◌else◌
+  alike_if : (test : Bool) (number place : ℕ) {x y : Outcome A} → (test ≡ false → Alike R x y) → Alike R (when test then refused number place else x) (when test then refused number place else y)
+  unfolding when◌then◌else◌
   alike_if true number place f = both_refused
   alike_if false number place f = f refl
 

@@ -14,7 +14,7 @@ use native.Mathlib.Nat.{mul-add, add-mul, mul_comm, mul-zero, mul-le-mul_right, 
 use native.Mathlib.Omega.{arith}
 use borrow.Author.Tests.{ltb-true, ltb-false}
 use lib.Dec.{ltb}
-use Rattle.arithmetic.specs.Choice.{if◌then◌else◌}
+use Rattle.arithmetic.specs.Choice.{when◌then◌else◌}
 use Rattle.arithmetic.proofs.Choice.{if_either}
 use Rattle.arithmetic.proofs.Ring.{ring}
 use Rattle.arithmetic.proofs.Rounding.{RoundedDown, down_of, down_greatest}
@@ -121,7 +121,7 @@ module _ (d : ℕ) (some : 0 < d) where
 
     module _ (r s : Row) (rest : List Row) (h : r.displacement < s.displacement) (g : s.draft ≡ r.draft + d) (z : ℕ) (l : r.draft ≤ z) where
       -- W lies below the next row
-      below_next : (q : ℕ) → Rising d s rest → RoundedDown (d * (W - r.displacement)) (rise r s) q → r.displacement ≤ W → W < s.displacement → (z ≤ r.draft + q) ↔ ((if ltb z s.draft then line_from r s z else straight_from d s rest z) ≤ W * d)
+      below_next : (q : ℕ) → Rising d s rest → RoundedDown (d * (W - r.displacement)) (rise r s) q → r.displacement ≤ W → W < s.displacement → (z ≤ r.draft + q) ↔ ((when ltb z s.draft then line_from r s z else straight_from d s rest z) ≤ W * d)
       below_next q k down from to =
           if_either (λ n. (z ≤ r.draft + q) ↔ (n ≤ W * d)) (ltb z s.draft)
           (λ e. on_line d r s h g W q from down z l (le_of_lt (ltb-true z s.draft e)))
@@ -132,7 +132,7 @@ module _ (d : ℕ) (some : 0 < d) where
           (λ x. omega (arith, straight_low k z m, mul-lt-mul_of_pos_right to some)))
 
       -- W lies at the next row or above
-      from_next : (draft : ℕ) → s.draft ≤ draft → s.displacement ≤ W → (s.draft ≤ z → (z ≤ draft) ↔ (straight_from d s rest z ≤ W * d)) → (z ≤ draft) ↔ ((if ltb z s.draft then line_from r s z else straight_from d s rest z) ≤ W * d)
+      from_next : (draft : ℕ) → s.draft ≤ draft → s.displacement ≤ W → (s.draft ≤ z → (z ≤ draft) ↔ (straight_from d s rest z ≤ W * d)) → (z ≤ draft) ↔ ((when ltb z s.draft then line_from r s z else straight_from d s rest z) ≤ W * d)
       from_next draft m to again =
           if_either (λ n. (z ≤ draft) ↔ (n ≤ W * d)) (ltb z s.draft)
           (λ e.

@@ -3,7 +3,7 @@
 -- The others are run by the crate trials. Assumes nothing.
 use mathlib.Core.Path.{◌≡◌, refl}
 use mathlib.Core.List.{map}
-use Rattle.arithmetic.specs.Choice.{if◌then◌else◌}
+use Rattle.arithmetic.specs.Choice.{when◌then◌else◌}
 use Rattle.arithmetic.specs.Rounding.{rounded_up}
 use Rattle.arithmetic.specs.Sum.{sum_by}
 use Rattle.simpson.specs.Curve.{curve}
@@ -16,5 +16,5 @@ use Rattle.loading.specs.Table.{place_from}
 use Rattle.loading.specs.Total.{total}
 
 pub figures : map computed trial_figures ≡ trial_figures
-unfolding listed multiplier first_rule second_rule later curve sum_by rounded_up rectangle_parts slack if◌then◌else◌ place_from weight vertical_moment_of free_surface_of total
+unfolding listed multiplier first_rule second_rule later curve sum_by rounded_up rectangle_parts slack when◌then◌else◌ place_from weight vertical_moment_of free_surface_of total
 figures = refl

@@ -13,7 +13,7 @@ use native.Mathlib.Omega.{arith}
 use lib.Dec.{T, eqb, leb, leb→le, le→leb, eqb→eq}
 use lib.IntN.{ℤ, pos, negsuc, nat_abs, ◌+ℤ◌, ◌*ℤ◌}
 use lib.Signed.{◌≤ℤ◌}
-use Rattle.arithmetic.specs.Choice.{if◌then◌else◌}
+use Rattle.arithmetic.specs.Choice.{when◌then◌else◌}
 use Rattle.loading.specs.Load.{Load, weight, longitudinal_moment_of, vertical_moment_of, transverse_moment_of, Lowered}
 use Rattle.loading.specs.Stability.{least_gm, heel_limit, ten_thousandths, heel_of, stands, passes, tangent}
 use Rattle.loading.specs.declared.Heel.TheVariants.{Unstable, Upright, Heeled, Beyond}
@@ -57,15 +57,15 @@ and_in false b h k = h
 
 -- what the four outcomes of the heel say of its three tests
 module _ (W : ℕ) (gm my : ℤ) where
-  stands_out : {P : Type 0} (u o h : Bool) → (T o → P) → (T h → P) → T (stands (if u then Unstable else if o then Upright else if h then Heeled (tangent W gm my) else Beyond)) → P
-  unfolding if◌then◌else◌
+  stands_out : {P : Type 0} (u o h : Bool) → (T o → P) → (T h → P) → T (stands (when u then Unstable else when o then Upright else when h then Heeled (tangent W gm my) else Beyond)) → P
+  unfolding when◌then◌else◌
   stands_out true o h f g k = absurd k
   stands_out false true h f g k = f k
   stands_out false false true f g k = g k
   stands_out false false false f g k = absurd k
 
-  stands_in : (u o h : Bool) → (T u → ⊥) → T h → T (stands (if u then Unstable else if o then Upright else if h then Heeled (tangent W gm my) else Beyond))
-  unfolding if◌then◌else◌
+  stands_in : (u o h : Bool) → (T u → ⊥) → T h → T (stands (when u then Unstable else when o then Upright else when h then Heeled (tangent W gm my) else Beyond))
+  unfolding when◌then◌else◌
   stands_in true o h e k = e tt
   stands_in false true h e k = tt
   stands_in false false true e k = tt

@@ -15,7 +15,7 @@ use borrow.Author.Tests.{lt-ltb, le-ltb, leb-true}
 use lib.Dec.{leb, ltb}
 use lib.IntN.{ℤ}
 use lib.ListN.{length}
-use Rattle.arithmetic.specs.Choice.{if◌then◌else◌}
+use Rattle.arithmetic.specs.Choice.{when◌then◌else◌}
 use Rattle.arithmetic.proofs.Choice.{chosen}
 use Rattle.arithmetic.proofs.Tests.{both}
 use Rattle.hydrostatics.specs.Usable.{row_in, usable_up_to}
@@ -80,7 +80,7 @@ module _ (rows : List ℕ) (count : ℕ) (some : 0 < count) (a : Aboard) {first 
 floats_is : (reading : Reading) (t : Table) (l : Load) → floats_with reading t (aboard_of l) ≡ floats reading t l
 unfolding floats_with floats
 floats_is reading t l =
-    let of : ℕ → Condition → Outcome Condition = λ W c. if ltb W t.first.displacement then refused too_light 0 else if ltb (last_row t).displacement W then refused too_heavy 0 else answered c in
+    let of : ℕ → Condition → Outcome Condition = λ W c. when ltb W t.first.displacement then refused too_light 0 else when ltb (last_row t).displacement W then refused too_heavy 0 else answered c in
     ap (λ W. of W (condition_with (aboard_of l) (draft_of t W) (km_at (paper_rules reading) t W))) (weight_is l)
     ∙ ap (of (weight l)) (condition_is l reading t)
 
@@ -131,7 +131,7 @@ module _ (items tanks : List ℤ) (rows : List ℕ) where
         record { whole = omega arith; least = leb-true least_rows (length rows / row_width) h.1; most = whole.1 }
 
     -- ---- the rows and the items
-    sizes_passed : (reading : Reading) → condition_by reading items tanks rows ≡ and_then (usable_up_to rows (length rows / row_width)) (λ good. if ltb (first_outside item items) (length items) then refused out_of_range (place_of_items + first_outside item items) else after_items reading items tanks (hull rows))
+    sizes_passed : (reading : Reading) → condition_by reading items tanks rows ≡ and_then (usable_up_to rows (length rows / row_width)) (λ good. when ltb (first_outside item items) (length items) then refused out_of_range (place_of_items + first_outside item items) else after_items reading items tanks (hull rows))
     unfolding condition_by after_items
     sizes_passed reading = simp (sized.items_whole, sized.tanks_whole, sized.rows_are_allowed, chosen)
 
@@ -144,7 +144,7 @@ module _ (items tanks : List ℤ) (rows : List ℕ) where
       usable : usable_up_to rows (length rows / row_width) ≡ answered (length rows / row_width)
       usable = tried.is ∙ simp (le-ltb bad (length rows / row_width) last, chosen)
 
-      rows_passed : (reading : Reading) → condition_by reading items tanks rows ≡ (if ltb (first_outside item items) (length items) then refused out_of_range (place_of_items + first_outside item items) else after_items reading items tanks (hull rows))
+      rows_passed : (reading : Reading) → condition_by reading items tanks rows ≡ (when ltb (first_outside item items) (length items) then refused out_of_range (place_of_items + first_outside item items) else after_items reading items tanks (hull rows))
       unfolding and_then
       rows_passed reading = sizes_passed reading ∙ rw usable
 

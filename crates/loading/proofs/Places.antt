@@ -9,7 +9,7 @@ use Prim.Native.Nat.{ℕ, ◌≤◌, ◌<◌}
 use native.Mathlib.Omega.{arith}
 use borrow.Author.Tests.{ltb-true, ltb-false, eqb-true, eqb-false}
 use lib.Dec.{eqb, ltb}
-use Rattle.arithmetic.specs.Choice.{if◌then◌else◌}
+use Rattle.arithmetic.specs.Choice.{when◌then◌else◌}
 use Rattle.hydrostatics.specs.declared.Row.{Row}
 use Rattle.loading.specs.Private.Afloat.{Within}
 use Rattle.loading.specs.Table.{Table, last_from, Place, on, between, place_from, place_of}
@@ -24,8 +24,8 @@ apart : (a b : ℕ) → b ≤ a → (a ≡ b → ⊥) → b < a
 apart a b l n = omega arith
 
 module _ (W : ℕ) (r s : Row) (rest : List Row) (p : Place) (l : r.displacement ≤ W) (f : s.displacement ≤ W → Falls W s rest p) where
-  falls_by : (a b : Bool) → ltb W s.displacement ≡ a → eqb W r.displacement ≡ b → Falls W r (s ∷ rest) (if a then (if b then on r else between r s) else p)
-  unfolding if◌then◌else◌
+  falls_by : (a b : Bool) → ltb W s.displacement ≡ a → eqb W r.displacement ≡ b → Falls W r (s ∷ rest) (when a then (when b then on r else between r s) else p)
+  unfolding when◌then◌else◌
   falls_by true true g h = here (eqb-true W r.displacement h)
   falls_by true false g h =
       inside (apart W r.displacement l (eqb-false W r.displacement h)) (ltb-true W s.displacement g)

@@ -11,7 +11,7 @@ use native.Mathlib.Omega.{arith}
 use borrow.Author.Tests.{lt-ltb, ltb-true}
 use lib.Dec.{T, ltb}
 use lib.Signed.{◌≤ℤ◌}
-use Rattle.arithmetic.specs.Choice.{if◌then◌else◌}
+use Rattle.arithmetic.specs.Choice.{when◌then◌else◌}
 use Rattle.arithmetic.proofs.Choice.{chosen, if_either}
 use Rattle.arithmetic.proofs.Rounding.{up_of, up_mono}
 use Rattle.loading.specs.Condition.{condition_at}
@@ -30,7 +30,7 @@ use Rattle.loading.proofs.Adding.{total_le}
 
 -- "when 0 < contents < capacity"
 abbrev not_full : Tank → ℕ
-not_full t = if ltb 0 t.contents && ltb t.contents t.capacity then t.length * t.breadth ^ 3 * t.density else 0
+not_full t = when ltb 0 t.contents && ltb t.contents t.capacity then t.length * t.breadth ^ 3 * t.density else 0
 
 abbrev pub to_the_last_kilogram : Reading → Rules
 to_the_last_kilogram reading = record { reading = (paper_rules reading).reading; surface = record { parts = not_full; unit = rectangle.unit } }

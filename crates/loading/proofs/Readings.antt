@@ -9,7 +9,7 @@ use mathlib.Core.Bool.{Bool, true, false}
 use Prim.Native.Nat.{ℕ, ◌-◌, ◌*◌, ◌≤◌, ◌<◌}
 use native.Mathlib.Nat.{mul-le-mul, pow-le-pow_left, le_refl, div-one, mul_comm}
 use native.Mathlib.Omega.{arith}
-use Rattle.arithmetic.specs.Choice.{if◌then◌else◌}
+use Rattle.arithmetic.specs.Choice.{when◌then◌else◌}
 use Rattle.arithmetic.proofs.Rounding.{down_of, down_whole}
 use Rattle.hydrostatics.specs.declared.Row.{Row}
 use Rattle.loading.specs.Load.{Tank, Load, weight, LoweredTank}
@@ -31,8 +31,8 @@ pub reading_sound : (reading : Reading) → SoundReading (rule_of reading)
 reading_sound Lesser = record { rounds = λ W p h. down_whole (lesser_km p) (on_line p W).bottom (span_some W p h) }
 reading_sound StraightLine = record { rounds = λ W p h. down_of (on_line p W).top (on_line p W).bottom (span_some W p h) }
 
-if_mono : (c : Bool) (a b : ℕ) → a ≤ b → (if c then a else 0) ≤ (if c then b else 0)
-unfolding if◌then◌else◌
+if_mono : (c : Bool) (a b : ℕ) → a ≤ b → (when c then a else 0) ≤ (when c then b else 0)
+unfolding when◌then◌else◌
 if_mono true a b h = h
 if_mono false a b h = le_refl 0
 

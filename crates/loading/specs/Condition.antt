@@ -1,6 +1,6 @@
 -- What a loading condition comes to: its numbers, or the first refusal in the paper's order.
 use Rattle.std.specs.Prelude.{ℕ, ◌+◌, ◌/◌, Bool, not, ◌&&◌, List, [], ◌∷◌, leb, ltb, ℤ, nat_abs, length}
-use Rattle.arithmetic.specs.Choice.{if◌then◌else◌}
+use Rattle.arithmetic.specs.Choice.{when◌then◌else◌}
 use Rattle.hydrostatics.specs.Usable.{usable_up_to}
 use Rattle.ranges.specs.Fields.{item, tank}
 use Rattle.ranges.specs.Outcome.{Outcome, answered, refused, and_then}
@@ -19,8 +19,8 @@ use Rattle.loading.specs.declared.Reading.{Reading}
 unfoldable pub tanks_from : ℕ → List ℤ → Outcome ℕ
 tanks_from place (contents ∷ capacity ∷ x ∷ y ∷ z ∷ length ∷ breadth ∷ density ∷ rest) =
     let outside = first_outside tank (contents ∷ capacity ∷ x ∷ y ∷ z ∷ length ∷ breadth ∷ density ∷ []) in
-    if ltb outside tank_width then refused out_of_range (place_of_tanks + (place + outside))
-    else if ltb (nat_abs capacity) (nat_abs contents) then refused contents_above_capacity (place_of_tanks + place)
+    when ltb outside tank_width then refused out_of_range (place_of_tanks + (place + outside))
+    else when ltb (nat_abs capacity) (nat_abs contents) then refused contents_above_capacity (place_of_tanks + place)
     else tanks_from (place + tank_width) rest
 tanks_from place (contents ∷ capacity ∷ x ∷ y ∷ z ∷ length ∷ breadth ∷ []) = answered place
 tanks_from place (contents ∷ capacity ∷ x ∷ y ∷ z ∷ length ∷ []) = answered place
@@ -49,8 +49,8 @@ condition_at reading t l = record {
 -- W against the table: 11 below the first row, 12 above the last
 unfoldable pub floats : Reading → Table → Load → Outcome Condition
 floats reading t l =
-    if ltb (weight l) t.first.displacement then refused too_light 0
-    else if ltb (last_row t).displacement (weight l) then refused too_heavy 0
+    when ltb (weight l) t.first.displacement then refused too_light 0
+    else when ltb (last_row t).displacement (weight l) then refused too_heavy 0
     else answered (condition_at reading t l)
 
 -- "2 to 19 whole rows", by the length of their table
@@ -62,11 +62,11 @@ unfoldable pub condition_by : Reading → List ℤ → List ℤ → List ℕ →
 condition_by reading items tanks rows =
     let count = length rows / row_width in
     let badItem = first_outside item items in
-    if not (whole_records item_width most_items (length items)) then refused wrong_size item_table
-    else if not (whole_records tank_width most_tanks (length tanks)) then refused wrong_size tank_table
-    else if not (rows_allowed (length rows)) then refused wrong_size row_table
+    when not (whole_records item_width most_items (length items)) then refused wrong_size item_table
+    else when not (whole_records tank_width most_tanks (length tanks)) then refused wrong_size tank_table
+    else when not (rows_allowed (length rows)) then refused wrong_size row_table
     else and_then (usable_up_to rows count) (λ good.
-    if ltb badItem (length items) then refused out_of_range (place_of_items + badItem)
+    when ltb badItem (length items) then refused out_of_range (place_of_items + badItem)
     else and_then (tanks_from 0 tanks) (λ last. floats reading (hull rows) (load_of items tanks)))
 
 -- where no reading is named

@@ -1,6 +1,6 @@
 -- What a table of items comes to by itself: the weight and moments, or the first refusal in the condition's own order.
 use Rattle.std.specs.Prelude.{◌+◌, not, List, [], ltb, ℤ, length}
-use Rattle.arithmetic.specs.Choice.{if◌then◌else◌}
+use Rattle.arithmetic.specs.Choice.{when◌then◌else◌}
 use Rattle.ranges.specs.Fields.{item}
 use Rattle.ranges.specs.Outcome.{Outcome, answered, refused}
 use Rattle.ranges.specs.Outside.{first_outside}
@@ -17,6 +17,6 @@ totals_of_items items = totals_of (load_of items [])
 unfoldable pub item_totals : List ℤ → Outcome Totals
 item_totals items =
     let badItem = first_outside item items in
-    if not (whole_records item_width most_items (length items)) then refused wrong_size item_table
-    else if ltb badItem (length items) then refused out_of_range (place_of_items + badItem)
+    when not (whole_records item_width most_items (length items)) then refused wrong_size item_table
+    else when ltb badItem (length items) then refused out_of_range (place_of_items + badItem)
     else answered (totals_of_items items)

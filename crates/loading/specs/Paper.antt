@@ -1,6 +1,6 @@
 -- The papers' rules for KM and free surface.
 use Rattle.std.specs.Prelude.{Bool, ◌&&◌, ℕ, ◌-◌, ◌*◌, ◌/◌, ◌^◌, min, ltb}
-use Rattle.arithmetic.specs.Choice.{if◌then◌else◌}
+use Rattle.arithmetic.specs.Choice.{when◌then◌else◌}
 use Rattle.loading.specs.Fraction.{Fraction, ◌over◌}
 use Rattle.loading.specs.Load.{Tank}
 use Rattle.loading.specs.Rules.{KMRule, Surface, Rules}
@@ -47,7 +47,7 @@ slack t = ltb 0 t.contents && ltb (hundredths * t.contents) (pressed_up * t.capa
 
 -- "length · breadth³ · liquid density / 12,000,000,000 kg·mm, rounded up; otherwise 0"
 unfoldable pub rectangle_parts : Tank → ℕ
-rectangle_parts t = if slack t then t.length * t.breadth ^ 3 * t.density else 0
+rectangle_parts t = when slack t then t.length * t.breadth ^ 3 * t.density else 0
 
 abbrev pub rectangle : Surface
 rectangle = record { parts = rectangle_parts; unit = 12_000_000_000 }

@@ -3,7 +3,7 @@ use Rattle.std.specs.Prelude.{Bool, true, false, ◌&&◌, ℕ, ◌+◌, ◌*◌
 use Rattle.std.specs.Float.Ieee as Ieee
 use Rattle.std.specs.Float.{binary64}
 use Rattle.std.specs.Int.Signed.{le_z}
-use Rattle.arithmetic.specs.Choice.{if◌then◌else◌}
+use Rattle.arithmetic.specs.Choice.{when◌then◌else◌}
 use Rattle.arithmetic.specs.Rounding.{rounded_up}
 use Rattle.loading.specs.Fraction.{Fraction, SignedFraction, ◌over◌, ◌plus◌, ◌per◌, ◌minus◌}
 use Rattle.loading.specs.Load.{Load, weight, longitudinal_moment_of, vertical_moment_of}
@@ -31,9 +31,9 @@ tangent W gm my = Ieee.div binary64 (Ieee.of_int binary64 my) (Ieee.of_int binar
 -- "unstable if GM ≤ 0; else upright if My = 0; else heeled if 10,000·|My| ≤ 1,763·W·GM, carrying the tangent; else beyond"
 unfoldable pub heel_of : ℕ → ℤ → ℤ → Heel
 heel_of W gm my =
-    if le_z gm (pos 0) then Unstable
-    else if eqb (nat_abs my) 0 then Upright
-    else if le_z (pos (ten_thousandths * nat_abs my)) (pos (heel_limit * W) *ℤ gm) then Heeled (tangent W gm my)
+    when le_z gm (pos 0) then Unstable
+    else when eqb (nat_abs my) 0 then Upright
+    else when le_z (pos (ten_thousandths * nat_abs my)) (pos (heel_limit * W) *ℤ gm) then Heeled (tangent W gm my)
     else Beyond
 
 abbrev pub stands : Heel → Bool

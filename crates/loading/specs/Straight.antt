@@ -1,6 +1,6 @@
 -- The straight-line displacement between rows, and the greatest draft that a weight bears: the words of demand 3's first sentence.
 use Rattle.std.specs.Prelude.{List, [], ◌∷◌, ℕ, ◌*◌, ◌≤◌, ltb}
-use Rattle.arithmetic.specs.Choice.{if◌then◌else◌}
+use Rattle.arithmetic.specs.Choice.{when◌then◌else◌}
 use Rattle.hydrostatics.specs.declared.Row.{Row}
 use Rattle.loading.specs.Table.{Table, spacing, last_row, line}
 
@@ -8,7 +8,7 @@ use Rattle.loading.specs.Table.{Table, spacing, last_row, line}
 unfoldable pub straight_from : ℕ → Row → List Row → ℕ → ℕ
 straight_from d r [] z = r.displacement * d
 straight_from d r (s ∷ rest) z =
-    if ltb z s.draft then line r.displacement s.displacement r.draft s.draft z
+    when ltb z s.draft then line r.displacement s.displacement r.draft s.draft z
     else straight_from d s rest z
 
 abbrev pub straight : Table → ℕ → ℕ

@@ -1,6 +1,6 @@
 -- The rows of a hull, where a weight falls among them, and the draft there. Their laws: `Places` and `Drafts` of proofs/.
 use Rattle.std.specs.Prelude.{List, [], ◌∷◌, ℕ, zero, suc, ◌+◌, ◌-◌, ◌*◌, ◌/◌, eqb, ltb, length}
-use Rattle.arithmetic.specs.Choice.{if◌then◌else◌}
+use Rattle.arithmetic.specs.Choice.{when◌then◌else◌}
 use Rattle.hydrostatics.specs.Usable.{row_in}
 use Rattle.hydrostatics.specs.declared.Row.{Row}
 use Rattle.ranges.specs.Sizes.{row_width}
@@ -41,7 +41,7 @@ pub data Place : Type 0 where
 unfoldable pub place_from : Row → List Row → ℕ → Place
 place_from r [] W = on r
 place_from r (s ∷ rest) W =
-    if ltb W s.displacement then (if eqb W r.displacement then on r else between r s)
+    when ltb W s.displacement then (when eqb W r.displacement then on r else between r s)
     else place_from s rest W
 
 abbrev pub place_of : Table → ℕ → Place

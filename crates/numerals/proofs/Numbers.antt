@@ -18,7 +18,7 @@ use borrow.Author.Tests.{eqb-true, eqb-false, eq-eqb, ne_eqb}
 use lib.Dec.{eqb, lit<}
 use lib.IntN.{ℤ, nat_abs}
 use lib.ListN.{length, get_or}
-use Rattle.arithmetic.specs.Choice.{if◌then◌else◌}
+use Rattle.arithmetic.specs.Choice.{when◌then◌else◌}
 use Rattle.arithmetic.proofs.Choice.{chosen}
 use Rattle.arithmetic.proofs.Crossing.{back, back_is, mag_le}
 use Rattle.numerals.specs.Number.{minus, is_digit, most_digits, is_whole, value, all_digits, number_of}
@@ -64,8 +64,8 @@ unfolding said_by
 said_zero l h = simp (eq-eqb _ _ h, and-false, chosen)
 
 -- a choice that gives a number took it
-chosen_is : (t : Bool) {v w : ℤ} → (if t then Is v else Not) ≡ Is w → (t ≡ true) × (v ≡ w)
-unfolding if◌then◌else◌
+chosen_is : (t : Bool) {v w : ℤ} → (when t then Is v else Not) ≡ Is w → (t ≡ true) × (v ≡ w)
+unfolding when◌then◌else◌
 chosen_is true e = (refl, cc)
 chosen_is false e = let z : ◌≡◌ {A = ℕ} 0 1 = cc in absurd (omega arith)
 

@@ -1,7 +1,7 @@
 -- The number at the front of a text, read with no knowledge of where its token ends: an optional minus and the digits after it,
 -- ten at the most, since ten are too many already. Whoever reads it sees whether the token ends there.
 use Rattle.std.specs.Prelude.{ℕ, zero, suc, ◌+◌, List, [], ◌∷◌, eqb, length, drop}
-use Rattle.arithmetic.specs.Choice.{if◌then◌else◌}
+use Rattle.arithmetic.specs.Choice.{when◌then◌else◌}
 use Rattle.numerals.specs.Number.{minus, is_digit, most_digits, number_of}
 use Rattle.numerals.specs.declared.reading.Number.{Number}
 use Rattle.numerals.specs.declared.reading.Number.TheVariants.{Is, Not}
@@ -12,7 +12,7 @@ use Rattle.numerals.specs.declared.reading.Numeral.TheVariants.{Ends, None}
 unfoldable pub digits_of : ℕ → List ℕ → List ℕ
 digits_of zero text = []
 digits_of (suc most) [] = []
-digits_of (suc most) (b ∷ rest) = if is_digit b then b ∷ digits_of most rest else []
+digits_of (suc most) (b ∷ rest) = when is_digit b then b ∷ digits_of most rest else []
 
 -- so many are too many already
 abbrev pub enough_digits : ℕ
@@ -20,7 +20,7 @@ enough_digits = most_digits + 1
 
 unfoldable pub front : List ℕ → List ℕ
 front [] = []
-front (b ∷ rest) = if eqb b minus then b ∷ digits_of enough_digits rest else digits_of enough_digits (b ∷ rest)
+front (b ∷ rest) = when eqb b minus then b ∷ digits_of enough_digits rest else digits_of enough_digits (b ∷ rest)
 
 -- the number that a front says, and the place after it where it starts at place `at`
 unfoldable pub ends_at : ℕ → Number → Numeral

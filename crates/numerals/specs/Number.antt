@@ -1,7 +1,7 @@
 -- What a token says. "A run of other bytes is one token and must be a number: an optional minus, then 1 to 9 digits"; leading zeros
 -- are allowed within the nine, and "minus zero stays refused, as does minus with only zeros".
 use Rattle.std.specs.Prelude.{ℕ, ◌+◌, ◌-◌, ◌*◌, Bool, true, not, ◌&&◌, List, [], ◌∷◌, leb, eqb, pos, neg_ℤ, length}
-use Rattle.arithmetic.specs.Choice.{if◌then◌else◌}
+use Rattle.arithmetic.specs.Choice.{when◌then◌else◌}
 use Rattle.numerals.specs.declared.reading.Number.{Number}
 use Rattle.numerals.specs.declared.reading.Number.TheVariants.{Is, Not}
 
@@ -41,6 +41,6 @@ is_whole digits = all_digits digits && is_digit_count (length digits)
 unfoldable pub number_of : List ℕ → Number
 number_of [] = Not
 number_of (b ∷ rest) =
-    if eqb b minus
-    then (if is_whole rest && not (eqb (value rest) 0) then Is (neg_ℤ (pos (value rest))) else Not)
-    else (if is_whole (b ∷ rest) then Is (pos (value (b ∷ rest))) else Not)
+    when eqb b minus
+    then (when is_whole rest && not (eqb (value rest) 0) then Is (neg_ℤ (pos (value rest))) else Not)
+    else (when is_whole (b ∷ rest) then Is (pos (value (b ∷ rest))) else Not)

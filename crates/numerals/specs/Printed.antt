@@ -1,6 +1,6 @@
 -- A number as it is printed: a minus where it is below 0, and its decimal digits without leading zeros.
 use Rattle.std.specs.Prelude.{ℕ, zero, suc, ◌+◌, ◌/◌, ◌%◌, ◌≡◌, List, [], ◌∷◌, ◌++◌, ltb, ℤ, pos, negsuc, length}
-use Rattle.arithmetic.specs.Choice.{if◌then◌else◌}
+use Rattle.arithmetic.specs.Choice.{when◌then◌else◌}
 use Rattle.arithmetic.specs.Room.{laid}
 use Rattle.numerals.specs.Number.{minus, zero_digit}
 
@@ -9,7 +9,7 @@ unfoldable pub decimal_in : ℕ → ℕ → List ℕ
 decimal_in zero n = (zero_digit + n) ∷ []
 decimal_in (suc fuel) n =
     let more = decimal_in fuel (n / 10) ++ (zero_digit + n % 10) ∷ [] in
-    if ltb n 10 then (zero_digit + n) ∷ [] else more
+    when ltb n 10 then (zero_digit + n) ∷ [] else more
 
 unfoldable pub decimal : ℕ → List ℕ
 decimal n = decimal_in n n

@@ -12,7 +12,7 @@ use native.Mathlib.Omega.{arith}
 use lib.Dec.{eqb}
 use lib.IntN.{ℤ}
 use lib.ListN.{length}
-use Rattle.arithmetic.specs.Choice.{if◌then◌else◌}
+use Rattle.arithmetic.specs.Choice.{when◌then◌else◌}
 use Rattle.numerals.specs.Number.{minus, zero_digit, number_of}
 use Rattle.numerals.specs.declared.reading.Number.{Number}
 use Rattle.numerals.specs.declared.reading.Number.TheVariants.{Is, Not}
@@ -55,17 +55,17 @@ leading_zero (b ∷ c ∷ rest) = eqb b zero_digit
 -- the digits, after a minus or none
 unfoldable pub without_minus : List ℕ → List ℕ
 without_minus [] = []
-without_minus (b ∷ rest) = if eqb b minus then rest else b ∷ rest
+without_minus (b ∷ rest) = when eqb b minus then rest else b ∷ rest
 
 unfoldable pub number_before : List ℕ → Number
-number_before token = if leading_zero (without_minus token) then Not else number_of token
+number_before token = when leading_zero (without_minus token) then Not else number_of token
 
 abbrev pub tokens_before : List ℕ → List Token
 tokens_before text = tokens_by separated_before number_before 0 [] text
 
 -- ---- it is stricter
-number_left : (t : Bool) {n : Number} {v : ℤ} → (if t then Not else n) ≡ Is v → n ≡ Is v
-unfolding if◌then◌else◌
+number_left : (t : Bool) {n : Number} {v : ℤ} → (when t then Not else n) ≡ Is v → n ≡ Is v
+unfolding when◌then◌else◌
 number_left true e = let z : ◌≡◌ {A = ℕ} 0 1 = cc in absurd (omega arith)
 number_left false e = e
 

@@ -11,7 +11,7 @@ use Prim.Native.Nat.{ℕ}
 use lib.Dec.{eqb}
 use lib.IntN.{ℤ}
 use lib.ListN.{length}
-use Rattle.arithmetic.specs.Choice.{if◌then◌else◌}
+use Rattle.arithmetic.specs.Choice.{when◌then◌else◌}
 use Rattle.arithmetic.proofs.Choice.{if_either}
 use Rattle.arithmetic.proofs.Tests.{never}
 use Rattle.numerals.specs.Number.{number_of}
@@ -91,7 +91,7 @@ module _ {puts : ℕ → List ℕ} (editor : Editor puts) where
 
 -- tabs for spaces, and a carriage return before each line feed
 unfoldable pub tabbed : ℕ → List ℕ
-tabbed b = if eqb b space then tab ∷ [] else if eqb b line_feed then carriage_return ∷ line_feed ∷ [] else b ∷ []
+tabbed b = when eqb b space then tab ∷ [] else when eqb b line_feed then carriage_return ∷ line_feed ∷ [] else b ∷ []
 
 pub tabbing : Editor tabbed
 unfolding tabbed is_separator

@@ -6,7 +6,7 @@ use Prim.Native.Nat.{ℕ}
 use mathlib.Core.Path.{◌≡◌, refl}
 use mathlib.Core.List.{List, [], ◌∷◌, ◌++◌, map}
 use lib.ListN.{length, replicate}
-use Rattle.arithmetic.specs.Choice.{if◌then◌else◌}
+use Rattle.arithmetic.specs.Choice.{when◌then◌else◌}
 use Rattle.numerals.specs.Number.{minus, is_digit, all_digits, value_from, is_whole, number_of}
 use Rattle.ranges.specs.Fields.{within}
 use Rattle.ranges.specs.Outcome.{Outcome, refused, and_then}
@@ -54,7 +54,7 @@ abbrev read_whole : List ℕ → Outcome Contents
 read_whole text = reader_of text room_for_half_breadths room_for_items room_for_tanks
 
 pub shortest_files_are : map (λ f. read_whole f.0) shortest_files ≡ map (λ f. f.1) shortest_files
-unfolding reader_by file_by hull_by too_long count one numbers tokens_by closed said number_of is_whole all_digits is_digit value_from is_separator within and_then if◌then◌else◌
+unfolding reader_by file_by hull_by too_long count one numbers tokens_by closed said number_of is_whole all_digits is_digit value_from is_separator within and_then when◌then◌else◌
 shortest_files_are = refl
 
 abbrev shortest_files_before : List (List ℕ × Outcome Contents)
@@ -67,5 +67,5 @@ shortest_files_before =
     ∷ []
 
 pub shortest_files_before_are : map (λ f. file_by (length f.0) document_one (tokens_before f.0)) shortest_files_before ≡ map (λ f. f.1) shortest_files_before
-unfolding file_by count one tokens_by closed said number_before without_minus leading_zero number_of is_whole all_digits is_digit value_from separated_before within and_then if◌then◌else◌
+unfolding file_by count one tokens_by closed said number_before without_minus leading_zero number_of is_whole all_digits is_digit value_from separated_before within and_then when◌then◌else◌
 shortest_files_before_are = refl

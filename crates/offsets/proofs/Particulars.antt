@@ -16,7 +16,7 @@ use native.Mathlib.Omega.{arith}
 use lib.IntN.{ℤ, pos}
 use lib.ListN.{length, get_or}
 use lib.Seq.{get_or-take}
-use Rattle.arithmetic.specs.Choice.{if◌then◌else◌}
+use Rattle.arithmetic.specs.Choice.{when◌then◌else◌}
 use Rattle.arithmetic.proofs.Choice.{chosen}
 use Rattle.ranges.specs.Fields.{Range, particulars, spacing}
 use Rattle.ranges.specs.Limits.{limits}
@@ -120,13 +120,13 @@ module _ (text : List ℕ) (step : Step) (after : List ℤ) where
   hull_at k next e r h = from_place text step k next e (hull_by (length text) limits) ∙ h
 
 pub refused_before : (len : ℕ) {ts rest : List Token} {count why place : ℕ} → ts ≡ number count (pos (length particulars)) ∷ rest → numbers len particulars rest ≡ refused why place → file len ts ≡ refused why place
-unfolding file_by hull_by Reading.count one and_then if◌then◌else◌
+unfolding file_by hull_by Reading.count one and_then when◌then◌else◌
 refused_before len e r = rw (e, whole_within (length particulars) (length particulars) (length particulars) (omega arith, omega arith), r)
 
 pub refused_at_spacing : (len : ℕ) (p : Particulars) {ts : List Token} {count n m s d density : ℕ} {rest : List Token}
     → ts ≡ number count (pos (length particulars)) ∷ number n (pos p.n) ∷ number m (pos p.m) ∷ number s (pos p.s) ∷ number d (pos p.d) ∷ number density (pos p.density) ∷ rest
     → length particulars ≤ first_outside particulars (numbers_of p) → too_long limits p ≡ true → file len ts ≡ refused out_of_range s
-unfolding file_by hull_by Reading.count numbers one and_then if◌then◌else◌
+unfolding file_by hull_by Reading.count numbers one and_then when◌then◌else◌
 refused_at_spacing len p e is_in_range long =
     let at = all_within particulars (numbers_of p) is_in_range in
     rw (e, whole_within (length particulars) (length particulars) (length particulars) (omega arith, omega arith), at 0 (omega arith), at 1 (omega arith), at 2 (omega arith), at 3 (omega arith), at 4 (omega arith), long)

@@ -17,7 +17,7 @@ use lib.Dec.{eqb, ltb}
 use lib.IntN.{ℤ}
 use lib.ListN.{length, drop, get_or, length-drop, take-append-drop, drop_of_length-le}
 use lib.Seq.{drop-drop, drop_at, get_or-drop}
-use Rattle.arithmetic.specs.Choice.{if◌then◌else◌}
+use Rattle.arithmetic.specs.Choice.{when◌then◌else◌}
 use Rattle.arithmetic.proofs.Choice.{chosen, if_either}
 use Rattle.arithmetic.proofs.Parts.{drop_step}
 use Rattle.arithmetic.proofs.Tests.{never}
@@ -43,11 +43,11 @@ module _ (text : List ℕ) (i : ℕ) where
 -- ---- a run of bytes that are no separators
 unfoldable word : List ℕ → List ℕ
 word [] = []
-word (b ∷ text) = if is_separator b then [] else b ∷ word text
+word (b ∷ text) = when is_separator b then [] else b ∷ word text
 
 unfoldable beyond : List ℕ → List ℕ
 beyond [] = []
-beyond (b ∷ text) = if is_separator b then b ∷ text else beyond text
+beyond (b ∷ text) = when is_separator b then b ∷ text else beyond text
 
 -- bytes that are no separators
 pub data Clear : List ℕ → Type 0 where
@@ -69,7 +69,7 @@ unfolding word beyond
 both [] = refl
 both (b ∷ text) = by_test (is_separator b) (both text)
   where
-    by_test : (t : Bool) → word text ++ beyond text ≡ text → (if t then [] else b ∷ word text) ++ (if t then b ∷ text else beyond text) ≡ b ∷ text
+    by_test : (t : Bool) → word text ++ beyond text ≡ text → (when t then [] else b ∷ word text) ++ (when t then b ∷ text else beyond text) ≡ b ∷ text
     by_test true e = simp chosen
     by_test false e = simp chosen (ap (λ l. b ∷ l) e)
 
@@ -196,7 +196,7 @@ ends_parted : (text : List ℕ) (place : ℕ) → ends_here text place ≡ true 
 unfolding ends_here
 ends_parted text place h = by_test (ltb place (length text)) refl h
   where
-    by_test : (t : Bool) → ltb place (length text) ≡ t → (if t then is_separator (get_or text place 0) else true) ≡ true → Parted (drop place text)
+    by_test : (t : Bool) → ltb place (length text) ≡ t → (when t then is_separator (get_or text place 0) else true) ≡ true → Parted (drop place text)
     by_test true l e = subst Parted (sym (drop_step text place 0 (ltb-true place (length text) l))) (separated (simp chosen at e))
     by_test false l e = subst Parted (sym (drop_of_length-le text (ltb-false place (length text) l))) nothing
 

@@ -1,6 +1,6 @@
 -- What an offset file says. "Four sections stand in this order, each after its count."
 use Rattle.std.specs.Prelude.{ℕ, zero, suc, List, [], ◌∷◌, ◌++◌, ℤ, pos, nat_abs, length, get_or}
-use Rattle.arithmetic.specs.Choice.{if◌then◌else◌}
+use Rattle.arithmetic.specs.Choice.{when◌then◌else◌}
 use Rattle.ranges.specs.Fields.{Range, particulars, particulars_by, spacing, half_breadth, item, tank}
 use Rattle.ranges.specs.Limits.{Limits, limits}
 use Rattle.ranges.specs.Outcome.{Outcome, answered, refused, and_then}
@@ -30,7 +30,7 @@ module _ (textLength : ℕ) where
   -- the particulars, each in its range; then "n·s too large is 4 at s, after all five ranges": at the first byte of s
   unfoldable pub hull_by : Limits → Reading (List ℤ)
   hull_by allowed ts = and_then (numbers textLength (particulars_by allowed) ts) (λ read.
-      if too_long allowed (particulars_of read.0) then refused out_of_range (place_of (get_or ts spacing (no_number textLength)))
+      when too_long allowed (particulars_of read.0) then refused out_of_range (place_of (get_or ts spacing (no_number textLength)))
       else answered read)
 
   -- a count of records, and the records

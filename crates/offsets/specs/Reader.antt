@@ -1,6 +1,6 @@
 -- What the reader promises of a text and three lent tables.
 use Rattle.std.specs.Prelude.{ℕ, ◌/◌, ◌≡◌, List, map, ltb, ℤ, nat_abs, length}
-use Rattle.arithmetic.specs.Choice.{if◌then◌else◌}
+use Rattle.arithmetic.specs.Choice.{when◌then◌else◌}
 use Rattle.ranges.specs.Limits.{Limits, limits}
 use Rattle.ranges.specs.Outcome.{Outcome, answered, refused, answer_with, left_with}
 use Rattle.ranges.specs.Outside.{particulars_of}
@@ -15,10 +15,10 @@ use Rattle.offsets.specs.declared.Summary.{Summary}
 -- "Reader: 7 (room below" 1,701, "128 or 128 numbers), 1, then left to right", by the text and the lengths of the tables
 unfoldable pub reader_by : Limits → List ℕ → ℕ → ℕ → ℕ → Outcome Contents
 reader_by allowed text half_breadths items tanks =
-    if ltb half_breadths (room_for_half_breadths_by allowed) then refused wrong_size half_breadth_table
-    else if ltb items room_for_items then refused wrong_size item_table
-    else if ltb tanks room_for_tanks then refused wrong_size tank_table
-    else if ltb allowed.longest_file (length text) then refused file_too_long allowed.longest_file
+    when ltb half_breadths (room_for_half_breadths_by allowed) then refused wrong_size half_breadth_table
+    else when ltb items room_for_items then refused wrong_size item_table
+    else when ltb tanks room_for_tanks then refused wrong_size tank_table
+    else when ltb allowed.longest_file (length text) then refused file_too_long allowed.longest_file
     else file_by (length text) allowed (tokens text)
 
 abbrev pub reader_of : List ℕ → ℕ → ℕ → ℕ → Outcome Contents

@@ -1,6 +1,6 @@
 -- To read is to take tokens from the front and leave the others, or to refuse. "Left to right; one token is tried for 2, 3, 4."
 use Rattle.std.specs.Prelude.{ℕ, List, [], ◌∷◌, ℤ, nat_abs}
-use Rattle.arithmetic.specs.Choice.{if◌then◌else◌}
+use Rattle.arithmetic.specs.Choice.{when◌then◌else◌}
 use Rattle.ranges.specs.Fields.{Range, ◌to◌, within}
 use Rattle.ranges.specs.Outcome.{Outcome, answered, refused, and_then}
 use Rattle.ranges.specs.Refusals.{not_anumber, count_not_allowed, out_of_range, ends_too_early}
@@ -23,7 +23,7 @@ module _ (textLength : ℕ) where
   unfoldable pub one : ℕ → Range → Reading ℤ
   one why range [] = refused ends_too_early textLength
   one why range (no_number place ∷ rest) = refused not_anumber place
-  one why range (number place v ∷ rest) = if within range v then answered (v, rest) else refused why place
+  one why range (number place v ∷ rest) = when within range v then answered (v, rest) else refused why place
 
   -- a count, of those allowed
   unfoldable pub count : ℕ → ℕ → Reading ℕ

@@ -1,7 +1,7 @@
 -- A text as the list of its tokens. Separators are the space (32), the line feed (10), the tab (9) and the carriage return (13), "in any
 -- number, also first and last. A run of other bytes is one token and must be a number."
 use Rattle.std.specs.Prelude.{ℕ, ◌+◌, ◌-◌, Bool, ◌||◌, List, [], ◌∷◌, ◌++◌, eqb, ℤ, length}
-use Rattle.arithmetic.specs.Choice.{if◌then◌else◌}
+use Rattle.arithmetic.specs.Choice.{when◌then◌else◌}
 use Rattle.numerals.specs.Number.{number_of}
 use Rattle.numerals.specs.declared.reading.Number.{Number}
 use Rattle.numerals.specs.declared.reading.Number.TheVariants.{Is, Not}
@@ -45,7 +45,7 @@ module _ (separates : ℕ → Bool) (says : List ℕ → Number) where
   unfoldable pub tokens_by : ℕ → List ℕ → List ℕ → List Token
   tokens_by place run [] = closed place run []
   tokens_by place run (b ∷ text) =
-      if separates b then closed place run (tokens_by (place + 1) [] text)
+      when separates b then closed place run (tokens_by (place + 1) [] text)
       else tokens_by (place + 1) (run ++ b ∷ []) text
 
 abbrev pub tokens_from : ℕ → List ℕ → List ℕ → List Token

@@ -24,7 +24,7 @@ use lib.Dec.{leb, eqb}
 use lib.IntN.{ℤ, pos, negsuc, nat_abs, ◌-ℤ◌, +ℤ_idl, +ℤ_idr}
 use lib.ListN.{length, get_or, get_or-map, length-map}
 use Rattle.arithmetic.specs.Signed.{is_negative}
-use Rattle.arithmetic.specs.Choice.{if◌then◌else◌}
+use Rattle.arithmetic.specs.Choice.{when◌then◌else◌}
 use Rattle.arithmetic.proofs.Choice.{chosen}
 use Rattle.arithmetic.proofs.Tests.{both, never, by_test, less_or_not}
 use Rattle.ranges.specs.Fields.{Range, ◌to◌, ±◌, within, least, most, range_of, particulars, half_breadth}
@@ -59,8 +59,8 @@ sides_are (negsuc n) = +ℤ_idl (negsuc n)
 
 -- ---- a table with no number outside
 -- the walk went on at this number, and over the rest
-went_on : (t : Bool) (far place count : ℕ) → (if t then far else place) ≡ place + suc count → (t ≡ true) × (far ≡ (place + 1) + count)
-unfolding if◌then◌else◌
+went_on : (t : Bool) (far place count : ℕ) → (when t then far else place) ≡ place + suc count → (t ≡ true) × (far ≡ (place + 1) + count)
+unfolding when◌then◌else◌
 went_on true far place count e = (refl, omega arith)
 went_on false far place count e = absurd (omega arith)
 

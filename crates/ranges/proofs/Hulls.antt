@@ -10,7 +10,7 @@ use native.Mathlib.Omega.{arith}
 use borrow.Author.Tests.{ltb-true, ltb-false, lt-ltb, le-ltb}
 use lib.Dec.{ltb}
 use lib.ListN.{length}
-use Rattle.arithmetic.specs.Choice.{if◌then◌else◌}
+use Rattle.arithmetic.specs.Choice.{when◌then◌else◌}
 use Rattle.arithmetic.proofs.Choice.{chosen}
 use Rattle.ranges.specs.Fields.{particulars, particulars_by, spacing}
 use Rattle.ranges.specs.Limits.{Limits}
@@ -18,9 +18,9 @@ use Rattle.ranges.specs.Outside.{first_outside, numbers_of, too_long, bad_partic
 use Rattle.ranges.specs.declared.Particulars.{Particulars}
 
 -- none is refused where neither test refuses
-none_told : (out long : Bool) (place : ℕ) → length particulars ≤ (if out then place else if long then spacing else length particulars)
+none_told : (out long : Bool) (place : ℕ) → length particulars ≤ (when out then place else when long then spacing else length particulars)
     → (out ≡ true → place < length particulars) → (out ≡ false → length particulars ≤ place) → (length particulars ≤ place) × (long ≡ false)
-unfolding if◌then◌else◌
+unfolding when◌then◌else◌
 none_told true long place h low high = absurd (omega (arith, low refl))
 none_told false true place h low high = absurd (omega arith)
 none_told false false place h low high = (high refl, refl)

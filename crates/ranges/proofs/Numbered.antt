@@ -12,7 +12,7 @@ use mathlib.Core.Bool.{Bool}
 use Prim.Native.Nat.{ℕ, ◌≤◌}
 use native.Mathlib.Omega.{arith}
 use lib.Dec.{lit≤}
-use Rattle.arithmetic.specs.Choice.{if◌then◌else◌}
+use Rattle.arithmetic.specs.Choice.{when◌then◌else◌}
 use Rattle.arithmetic.proofs.Choice.{if_either}
 use Rattle.ranges.specs.Outcome.{Outcome, answered, refused, and_then, answer_with, Numbered}
 use Rattle.ranges.specs.Refusals.{first_refusal, last_refusal}
@@ -29,7 +29,7 @@ pub passed_on : {A B : Type 0} {number place : ℕ} → Numbered {A = A} (refuse
 passed_on h = let numbers = h.of_the_paper refl in refused_numbered numbers.0 numbers.1
 
 -- ---- tests
-pub if_numbered : {A : Type 0} {a b : Outcome A} (t : Bool) → Numbered a → Numbered b → Numbered (if t then a else b)
+pub if_numbered : {A : Type 0} {a b : Outcome A} (t : Bool) → Numbered a → Numbered b → Numbered (when t then a else b)
 if_numbered t x y = if_either Numbered t (λ e. x) (λ e. y)
 
 -- ---- steps

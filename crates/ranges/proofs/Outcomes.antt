@@ -14,7 +14,7 @@ use mathlib.Core.Bool.{Bool, true, false}
 use mathlib.Core.List.{List}
 use Prim.Native.Nat.{ℕ}
 use native.Mathlib.Omega.{arith}
-use Rattle.arithmetic.specs.Choice.{if◌then◌else◌}
+use Rattle.arithmetic.specs.Choice.{when◌then◌else◌}
 use Rattle.ranges.specs.Outcome.{Outcome, answered, refused, and_then, answer_with, left_with}
 use Rattle.ranges.specs.declared.Refusal.{Refusal}
 
@@ -28,18 +28,18 @@ pub refusal_same : {A : Type 0} (r s : Refusal) → ◌≡◌ {A = Outcome A} (r
 refusal_same r s e = ap₂ (λ n p. record { number = n; place = p }) (cc) (cc)
 
 -- ---- tests
-pub not_refused : {A : Type 0} {t : Bool} {other : Outcome A} {a : A} (number place : ℕ) → (if t then refused number place else other) ≡ answered a → (t ≡ false) × (other ≡ answered a)
-unfolding if◌then◌else◌
+pub not_refused : {A : Type 0} {t : Bool} {other : Outcome A} {a : A} (number place : ℕ) → (when t then refused number place else other) ≡ answered a → (t ≡ false) × (other ≡ answered a)
+unfolding when◌then◌else◌
 not_refused {t = true} number place e = refused_not e
 not_refused {t = false} number place e = (refl, e)
 
-pub was_passed : {A : Type 0} {t : Bool} {other : Outcome A} {a : A} (number place : ℕ) → (if t then other else refused number place) ≡ answered a → (t ≡ true) × (other ≡ answered a)
-unfolding if◌then◌else◌
+pub was_passed : {A : Type 0} {t : Bool} {other : Outcome A} {a : A} (number place : ℕ) → (when t then other else refused number place) ≡ answered a → (t ≡ true) × (other ≡ answered a)
+unfolding when◌then◌else◌
 was_passed {t = true} number place e = (refl, e)
 was_passed {t = false} number place e = refused_not e
 
-pub was_refused : {A : Type 0} {t : Bool} {n p : ℕ} (number place : ℕ) (a : A) → (if t then refused number place else answered a) ≡ refused n p → t ≡ true
-unfolding if◌then◌else◌
+pub was_refused : {A : Type 0} {t : Bool} {n p : ℕ} (number place : ℕ) (a : A) → (when t then refused number place else answered a) ≡ refused n p → t ≡ true
+unfolding when◌then◌else◌
 was_refused {t = true} number place a e = refl
 was_refused {t = false} number place a e = refused_not (sym e)
 

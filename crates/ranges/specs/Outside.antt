@@ -1,6 +1,6 @@
 -- Where the first number stands that is out of its range.
 use Rattle.std.specs.Prelude.{ℕ, ◌+◌, ◌*◌, ◌%◌, Bool, List, [], ◌∷◌, map, ltb, ℤ, pos, nat_abs, length, get_or}
-use Rattle.arithmetic.specs.Choice.{if◌then◌else◌}
+use Rattle.arithmetic.specs.Choice.{when◌then◌else◌}
 use Rattle.ranges.specs.Fields.{Range, ◌to◌, within, particulars, particulars_by, spacing}
 use Rattle.ranges.specs.Limits.{Limits, limits}
 use Rattle.ranges.specs.declared.Particulars.{Particulars}
@@ -10,7 +10,7 @@ use Rattle.ranges.specs.declared.Particulars.{Particulars}
 unfoldable pub outside_from : List Range → ℕ → List ℤ → ℕ
 outside_from section place [] = place
 outside_from section place (v ∷ rest) =
-    if within (get_or section (place % length section) (1 to 0)) v
+    when within (get_or section (place % length section) (1 to 0)) v
     then outside_from section (place + 1) rest
     else place
 
@@ -21,11 +21,11 @@ first_outside section table = outside_from section 0 table
 unfoldable pub outside_then : List Range → List ℤ → ℕ → ℕ
 outside_then section table further =
     let outside = first_outside section table in
-    if ltb outside (length table) then outside else length table + further
+    when ltb outside (length table) then outside else length table + further
 
 -- the field after a field of a record, where a record's fields follow one another again and again
 unfoldable pub field_after : ℕ → ℕ → ℕ
-field_after field width = if ltb (field + 1) width then field + 1 else 0
+field_after field width = when ltb (field + 1) width then field + 1 else 0
 
 -- the particulars in the file's order
 abbrev pub numbers_of : Particulars → List ℤ
@@ -49,8 +49,8 @@ too_long allowed p = ltb allowed.longest_hull (p.n * p.s)
 unfoldable pub bad_particular_by : Limits → Particulars → ℕ
 bad_particular_by allowed p =
     let outside = first_outside (particulars_by allowed) (numbers_of p) in
-    if ltb outside (length particulars) then outside
-    else if too_long allowed p then spacing
+    when ltb outside (length particulars) then outside
+    else when too_long allowed p then spacing
     else length particulars
 
 abbrev pub bad_particular : Particulars → ℕ

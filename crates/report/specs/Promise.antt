@@ -1,6 +1,6 @@
 -- What the call that makes a sheet promises, of every input.
 use Rattle.std.specs.Prelude.{ℕ, ◌≡◌, List, ltb, length}
-use Rattle.arithmetic.specs.Choice.{if◌then◌else◌}
+use Rattle.arithmetic.specs.Choice.{when◌then◌else◌}
 use Rattle.arithmetic.specs.Room.{laid}
 use Rattle.ranges.specs.Outcome.{Outcome, answered, refused}
 use Rattle.ranges.specs.Refusals.{room_too_short}
@@ -12,7 +12,7 @@ use Rattle.report.specs.declared.Report.TheVariants.{Lines, Refused}
 
 -- the length of the sheet's lines; 14 where the room is shorter
 unfoldable pub report_by : Reading → List ℕ → ℕ → Outcome ℕ
-report_by reading text room = if ltb room (length (sheet_by reading text)) then refused room_too_short (length (sheet_by reading text)) else answered (length (sheet_by reading text))
+report_by reading text room = when ltb room (length (sheet_by reading text)) then refused room_too_short (length (sheet_by reading text)) else answered (length (sheet_by reading text))
 
 -- where no reading is named
 abbrev pub report_of : List ℕ → ℕ → Outcome ℕ

@@ -9,7 +9,7 @@ use native.Mathlib.Nat.{zero-add, suc-sub-suc}
 use native.Mathlib.Omega.{arith}
 use borrow.Author.Tests.{lt-ltb, le-ltb, ne_eqb}
 use lib.Dec.{eqb, ltb, eqb-suc-suc, eqb-suc-zero, leb-suc-suc}
-use Rattle.arithmetic.specs.Choice.{if◌then◌else◌}
+use Rattle.arithmetic.specs.Choice.{when◌then◌else◌}
 use Rattle.arithmetic.proofs.Choice.{if_either, chosen}
 use Rattle.simpson.specs.Multipliers.{first_rule, second_rule, later, multiplier}
 use Rattle.simpson.specs.Private.Places.{repeated_first, second_last, placed}
@@ -48,7 +48,7 @@ along n i =
 
 -- the first three stations of four intervals, of five, and of more
 start : (n : ℕ) → Placed (more (more n)) 0 × Placed (more (more n)) 1 × Placed (more (more n)) 2
-unfolding multiplier first_rule second_rule later placed repeated_first second_last if◌then◌else◌
+unfolding multiplier first_rule second_rule later placed repeated_first second_last when◌then◌else◌
 start zero = (refl, refl, refl)
 start (suc zero) = (refl, refl, refl)
 start (suc (suc n)) =
@@ -66,7 +66,7 @@ next n h (suc (suc zero)) = (start n).2
 next n h (suc (suc (suc i))) = zero-add (multiplier (more n) (suc i)) ∙ h (suc i) ∙ sym (along n i)
 
 pub by_place : (n i : ℕ) → multiplier n i ≡ placed n i
-unfolding multiplier first_rule second_rule placed repeated_first second_last if◌then◌else◌
+unfolding multiplier first_rule second_rule placed repeated_first second_last when◌then◌else◌
 by_place zero i = few 0 i (omega arith)
 by_place (suc zero) i = few 1 i (omega arith)
 by_place (suc (suc zero)) zero = refl
@@ -85,7 +85,7 @@ record Within (u : ℕ) : Type 0 where
   low : 8 ≤ u
   high : u ≤ 32
 
-both : {a b : ℕ} (t : Bool) → Within a → Within b → Within (if t then a else b)
+both : {a b : ℕ} (t : Bool) → Within a → Within b → Within (when t then a else b)
 both t x y = if_either Within t (λ e. x) (λ e. y)
 
 repeated_within : (n i : ℕ) → Within (repeated_first n i)

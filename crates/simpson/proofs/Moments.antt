@@ -17,7 +17,7 @@ use borrow.Author.Tests.{ltb-false}
 use lib.Dec.{ltb}
 use lib.IntN.{ℤ, pos}
 use lib.ListN.{length, get_or}
-use Rattle.arithmetic.specs.Choice.{if◌then◌else◌}
+use Rattle.arithmetic.specs.Choice.{when◌then◌else◌}
 use Rattle.arithmetic.proofs.Ring.{pow1}
 use Rattle.arithmetic.proofs.Sums.{term_le_sum}
 use Rattle.simpson.specs.Multipliers.{multiplier}
@@ -75,8 +75,8 @@ not_large : {X : Type 0} {s : ℕ} → Sum s ≡ TooLarge → X
 not_large e = let z : ◌≡◌ {A = ℕ} 0 1 = cc e in absurd (omega arith)
 
 -- what the two tests say where there is a sum
-sum_told : (short fits : Bool) (total : ℕ) {s : ℕ} → Sum s ≡ (if short then TooShort else if fits then Sum total else TooLarge) → (short ≡ false) × (s ≡ total)
-unfolding if◌then◌else◌
+sum_told : (short fits : Bool) (total : ℕ) {s : ℕ} → Sum s ≡ (when short then TooShort else when fits then Sum total else TooLarge) → (short ≡ false) × (s ≡ total)
+unfolding when◌then◌else◌
 sum_told true fits total e = not_short e
 sum_told false true total e = (refl, cc e)
 sum_told false false total e = not_large e

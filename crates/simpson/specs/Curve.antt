@@ -1,6 +1,6 @@
 -- The sum over a curve: its ordinates at the stations 0..n, each times its multiplier. Times h/24 it is the area under the curve.
 use Rattle.std.specs.Prelude.{ℕ, ◌+◌, ◌-◌, ◌*◌, ◌^◌, List, ltb, ℤ, pos, ◌*ℤ◌, length, get_or}
-use Rattle.arithmetic.specs.Choice.{if◌then◌else◌}
+use Rattle.arithmetic.specs.Choice.{when◌then◌else◌}
 use Rattle.arithmetic.specs.Sum.{sum_to, sum_to_ℤ}
 use Rattle.simpson.specs.Multipliers.{multiplier}
 use Rattle.simpson.specs.declared.CurveSum.{CurveSum}
@@ -17,6 +17,6 @@ curve_ℤ n y = sum_to_ℤ (n + 1) (λ i. pos (multiplier n i) *ℤ y i)
 unfoldable pub curve_sum_of : List ℕ → CurveSum
 curve_sum_of ordinates =
     let area = curve (length ordinates - 1) (λ i. get_or ordinates i 0) in
-    if ltb (length ordinates) 3 then TooShort
-    else if ltb area (2 ^ 64) then Sum area
+    when ltb (length ordinates) 3 then TooShort
+    else when ltb area (2 ^ 64) then Sum area
     else TooLarge

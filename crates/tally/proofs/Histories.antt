@@ -17,7 +17,7 @@ use lib.Dec.{ltb, leb}
 use lib.IntN.{ℤ}
 use lib.ListN.{length, get_or, set, replicate, length-set}
 use lib.Seq.{get_or-set_same, get_or-set_other}
-use Rattle.arithmetic.specs.Choice.{if◌then◌else◌}
+use Rattle.arithmetic.specs.Choice.{when◌then◌else◌}
 use Rattle.arithmetic.proofs.Choice.{chosen}
 use Rattle.arithmetic.proofs.Tests.{same_or_other}
 use Rattle.ranges.specs.Fields.{item}
@@ -147,8 +147,8 @@ data Alike : Outcome Tally → Outcome (List Line) → Type 0 where
   both_answered : {t : Tally} {list : List Line} → Tells list t → Alike (answered t) (answered list)
   both_refused : {number place : ℕ} → Alike (refused number place) (refused number place)
 
-alike_if : {o o₂ : Outcome Tally} {p p₂ : Outcome (List Line)} (test : Bool) → (test ≡ true → Alike o p) → (test ≡ false → Alike o₂ p₂) → Alike (if test then o else o₂) (if test then p else p₂)
-unfolding if◌then◌else◌
+alike_if : {o o₂ : Outcome Tally} {p p₂ : Outcome (List Line)} (test : Bool) → (test ≡ true → Alike o p) → (test ≡ false → Alike o₂ p₂) → Alike (when test then o else o₂) (when test then p else p₂)
+unfolding when◌then◌else◌
 alike_if true when_true when_false = when_true refl
 alike_if false when_true when_false = when_false refl
 

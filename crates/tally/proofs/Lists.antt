@@ -12,7 +12,7 @@ use mathlib.Core.List.{List, [], ◌∷◌}
 use Prim.Native.Nat.{ℕ, ◌<◌}
 use borrow.Author.Tests.{eqb-true, eq-eqb, ne_eqb}
 use lib.Dec.{eqb}
-use Rattle.arithmetic.specs.Choice.{if◌then◌else◌}
+use Rattle.arithmetic.specs.Choice.{when◌then◌else◌}
 use Rattle.arithmetic.proofs.Choice.{chosen, if_either}
 use Rattle.arithmetic.proofs.Tests.{by_test, never}
 use Rattle.tally.specs.History.{Line, is_listed, struck, moved}
@@ -23,7 +23,7 @@ use Rattle.tally.specs.declared.Slot.{Slot}
 
 unfoldable pub held : List Line → ℕ → Slot
 held [] k = freed
-held (l ∷ rest) k = if eqb l.slot k then holding l.item else held rest k
+held (l ∷ rest) k = when eqb l.slot k then holding l.item else held rest k
 
 -- ---- a listed slot
 pub held_listed : (list : List Line) (k : ℕ) → (held list k).filled ≡ is_listed k list

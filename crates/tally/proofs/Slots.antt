@@ -15,7 +15,7 @@ use borrow.Author.Tests.{leb-true, le-leb, eq-eqb}
 use lib.Dec.{leb}
 use lib.ListN.{length, get_or, set}
 use lib.Seq.{set-get_or}
-use Rattle.arithmetic.specs.Choice.{if◌then◌else◌}
+use Rattle.arithmetic.specs.Choice.{when◌then◌else◌}
 use Rattle.arithmetic.proofs.Choice.{chosen, if_either}
 use Rattle.arithmetic.proofs.Crossing.{same_eq_ℤ}
 use Rattle.arithmetic.proofs.Tests.{both, never}
@@ -36,20 +36,20 @@ none_aboard (s ∷ rest) h = simp (ap (λ s. s.filled) (h 0), chosen) (none_aboa
 module _ {A : Type 0} {figure : List Item → A} {put : Item → A → A} (any : InAnyOrder figure put) where
   -- its item, if it is filled
   abbrev pub brings : Slot → A → A
-  brings s a = if s.filled then put s.item a else a
+  brings s a = when s.filled then put s.item a else a
 
   figure_first : (s : Slot) (rest : List Slot) → figure (aboard (s ∷ rest)) ≡ brings s (figure (aboard rest))
   unfolding aboard
   figure_first s rest = by_filled s.filled
     where
-      by_filled : (filled : Bool) → figure (if filled then s.item ∷ aboard rest else aboard rest) ≡ (if filled then put s.item (figure (aboard rest)) else figure (aboard rest))
+      by_filled : (filled : Bool) → figure (when filled then s.item ∷ aboard rest else aboard rest) ≡ (when filled then put s.item (figure (aboard rest)) else figure (aboard rest))
       by_filled true = simp chosen (any.first s.item (aboard rest))
       by_filled false = simp chosen
 
   brings_either : (s t : Slot) (a : A) → brings s (brings t a) ≡ brings t (brings s a)
   brings_either s t a = by_filled s.filled t.filled
     where
-      by_filled : (b c : Bool) → (if b then put s.item (if c then put t.item a else a) else if c then put t.item a else a) ≡ (if c then put t.item (if b then put s.item a else a) else if b then put s.item a else a)
+      by_filled : (b c : Bool) → (when b then put s.item (when c then put t.item a else a) else when c then put t.item a else a) ≡ (when c then put t.item (when b then put s.item a else a) else when b then put s.item a else a)
       by_filled true true = simp chosen (any.either s.item t.item a)
       by_filled true false = simp chosen
       by_filled false true = simp chosen
@@ -76,7 +76,7 @@ SlotInRange s = s.filled ≡ true → item_width ≤ outside s.item
 both_in_range : (s : Slot) (others : Bool) → brings range_any_order s others ≡ true → SlotInRange s × (others ≡ true)
 both_in_range s others e = by_filled s.filled e
   where
-    by_filled : (filled : Bool) → (if filled then leb item_width (outside s.item) && others else others) ≡ true → (filled ≡ true → item_width ≤ outside s.item) × (others ≡ true)
+    by_filled : (filled : Bool) → (when filled then leb item_width (outside s.item) && others else others) ≡ true → (filled ≡ true → item_width ≤ outside s.item) × (others ≡ true)
     by_filled true e =
         let h = both (leb item_width (outside s.item)) others (simp chosen at e) in
         (λ f. leb-true item_width (outside s.item) h.0, h.1)

@@ -1,6 +1,6 @@
 -- A history: steps from an empty tally on, and the crane driver's own list of what is aboard, kept by the steps alone.
 use Rattle.std.specs.Prelude.{Bool, false, not, ◌||◌, List, [], ◌∷◌, map, ℕ, ltb, leb, eqb}
-use Rattle.arithmetic.specs.Choice.{if◌then◌else◌}
+use Rattle.arithmetic.specs.Choice.{when◌then◌else◌}
 use Rattle.ranges.specs.Outcome.{Outcome, answered, refused, answer_with}
 use Rattle.ranges.specs.Refusals.{out_of_range, no_such_slot, slot_taken, slot_empty}
 use Rattle.ranges.specs.Sizes.{item_width}
@@ -35,29 +35,29 @@ is_listed slot (l ∷ rest) = eqb l.slot slot || is_listed slot rest
 -- the list without a slot's line
 unfoldable pub struck : ℕ → List Line → List Line
 struck slot [] = []
-struck slot (l ∷ rest) = if eqb l.slot slot then struck slot rest else l ∷ struck slot rest
+struck slot (l ∷ rest) = when eqb l.slot slot then struck slot rest else l ∷ struck slot rest
 
 -- the list with a slot's item at a new place
 unfoldable pub moved : ℕ → Place → List Line → List Line
 moved slot p [] = []
 moved slot p (l ∷ rest) =
-    (if eqb l.slot slot then record { slot = l.slot; item = moved_to p l.item } else l) ∷ moved slot p rest
+    (when eqb l.slot slot then record { slot = l.slot; item = moved_to p l.item } else l) ∷ moved slot p rest
 
 -- what is loaded is entered, what is discharged is struck out, and what is shifted stands at its new place; or why the step is not allowed
 unfoldable pub entered : Step → List Line → Outcome (List Line)
 entered (load slot i) list =
-    if ltb (outside i) item_width then refused out_of_range (outside i)
-    else if leb slot_count slot then refused no_such_slot slot
-    else if is_listed slot list then refused slot_taken slot
+    when ltb (outside i) item_width then refused out_of_range (outside i)
+    else when leb slot_count slot then refused no_such_slot slot
+    else when is_listed slot list then refused slot_taken slot
     else answered (record { slot = slot; item = i } ∷ list)
 entered (discharge slot) list =
-    if leb slot_count slot then refused no_such_slot slot
-    else if not (is_listed slot list) then refused slot_empty slot
+    when leb slot_count slot then refused no_such_slot slot
+    else when not (is_listed slot list) then refused slot_empty slot
     else answered (struck slot list)
 entered (shift slot p) list =
-    if ltb (outside (moved_to p no_item)) item_width then refused out_of_range (outside (moved_to p no_item))
-    else if leb slot_count slot then refused no_such_slot slot
-    else if not (is_listed slot list) then refused slot_empty slot
+    when ltb (outside (moved_to p no_item)) item_width then refused out_of_range (outside (moved_to p no_item))
+    else when leb slot_count slot then refused no_such_slot slot
+    else when not (is_listed slot list) then refused slot_empty slot
     else answered (moved slot p list)
 
 -- "those of the items then aboard, found by adding up the list"

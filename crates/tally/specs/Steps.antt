@@ -1,6 +1,6 @@
 -- The three steps: each takes a tally to the tally after it, or to its one refusal.
 use Rattle.std.specs.Prelude.{not, ℕ, ltb, leb, set}
-use Rattle.arithmetic.specs.Choice.{if◌then◌else◌}
+use Rattle.arithmetic.specs.Choice.{when◌then◌else◌}
 use Rattle.ranges.specs.Outcome.{Outcome, answered, refused}
 use Rattle.ranges.specs.Refusals.{out_of_range, no_such_slot, slot_taken, slot_empty, tally_unsound}
 use Rattle.ranges.specs.Sizes.{item_width}
@@ -24,27 +24,27 @@ with_slot t slot s = tally_of (set t.slots slot s)
 -- "load an item into an empty slot": 22, 4, 15, 16
 unfoldable pub loads : ℕ → Item → Tally → Outcome Tally
 loads slot i t =
-    if not (sound t) then refused tally_unsound 0
-    else if ltb (outside i) item_width then refused out_of_range (outside i)
-    else if leb slot_count slot then refused no_such_slot slot
-    else if (slot_at t slot).filled then refused slot_taken slot
+    when not (sound t) then refused tally_unsound 0
+    else when ltb (outside i) item_width then refused out_of_range (outside i)
+    else when leb slot_count slot then refused no_such_slot slot
+    else when (slot_at t slot).filled then refused slot_taken slot
     else answered (with_slot t slot (holding i))
 
 -- "discharge a slot": 22, 15, 17
 unfoldable pub discharges : ℕ → Tally → Outcome Tally
 discharges slot t =
-    if not (sound t) then refused tally_unsound 0
-    else if leb slot_count slot then refused no_such_slot slot
-    else if not (slot_at t slot).filled then refused slot_empty slot
+    when not (sound t) then refused tally_unsound 0
+    else when leb slot_count slot then refused no_such_slot slot
+    else when not (slot_at t slot).filled then refused slot_empty slot
     else answered (with_slot t slot freed)
 
 -- "shift a slot's item to a new place": 22, 4, 15, 17. The place's numbers are tried as those of an item of 0 kg, so that theirs are the places 1 to 3.
 unfoldable pub shifts : ℕ → Place → Tally → Outcome Tally
 shifts slot p t =
-    if not (sound t) then refused tally_unsound 0
-    else if ltb (outside (moved_to p no_item)) item_width then refused out_of_range (outside (moved_to p no_item))
-    else if leb slot_count slot then refused no_such_slot slot
-    else if not (slot_at t slot).filled then refused slot_empty slot
+    when not (sound t) then refused tally_unsound 0
+    else when ltb (outside (moved_to p no_item)) item_width then refused out_of_range (outside (moved_to p no_item))
+    else when leb slot_count slot then refused no_such_slot slot
+    else when not (slot_at t slot).filled then refused slot_empty slot
     else answered (with_slot t slot (holding (moved_to p (slot_at t slot).item)))
 
 -- what a call hands back; "A refused step changes nothing."

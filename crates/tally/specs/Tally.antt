@@ -1,6 +1,6 @@
 -- A tally: 32 slots, each empty or with an item, and the totals of what is aboard.
 use Rattle.std.specs.Prelude.{Bool, false, true, ◌&&◌, List, [], ◌∷◌, ℕ, eqb, ℤ, pos, length, get_or, replicate}
-use Rattle.arithmetic.specs.Choice.{if◌then◌else◌}
+use Rattle.arithmetic.specs.Choice.{when◌then◌else◌}
 use Rattle.arithmetic.specs.Signed.{eq_ℤ}
 use Rattle.ranges.specs.Fields.{item}
 use Rattle.ranges.specs.Outside.{first_outside}
@@ -31,7 +31,7 @@ slot_at t slot = get_or t.slots slot freed
 -- the items aboard: those of the filled slots; what an empty slot holds counts for nothing
 unfoldable pub aboard : List Slot → List Item
 aboard [] = []
-aboard (s ∷ rest) = if s.filled then s.item ∷ aboard rest else aboard rest
+aboard (s ∷ rest) = when s.filled then s.item ∷ aboard rest else aboard rest
 
 -- items as a table of items, four numbers each
 unfoldable pub table_of : List Item → List ℤ

@@ -13,7 +13,7 @@ use native.Mathlib.Nat.{suc-mul, zero-mul, mul-le-mul_right}
 use native.Mathlib.Omega.{arith}
 use lib.IntN.{ℤ, pos, negsuc}
 use lib.ListN.{length, length-append}
-use Rattle.arithmetic.specs.Choice.{if◌then◌else◌}
+use Rattle.arithmetic.specs.Choice.{when◌then◌else◌}
 use Rattle.numerals.specs.Printed.{decimal_in, decimal, printed}
 use Rattle.numerals.proofs.Decimal.{length_of_decimal_mono}
 use Rattle.ranges.specs.Fields.{Range, ◌to◌, ±◌, within, particulars, half_breadth, item, tank}
@@ -84,5 +84,5 @@ all_ranges_le p i t few-points few_items few_tanks =
 
 -- counts 2, 5, 3 and 3, the particulars 20, a half-breadth 5, an item 27, a tank 50
 pub longest_is : longest_text ≡ 10_202
-unfolding longest_text longest_record printed decimal decimal_in if◌then◌else◌
+unfolding longest_text longest_record printed decimal decimal_in when◌then◌else◌
 longest_is = refl

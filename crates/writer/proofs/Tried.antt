@@ -12,7 +12,7 @@ use borrow.Author.Tests.{lt-ltb, le-ltb, ltb-false, eq-eqb, ne_eqb, eqb-true, no
 use lib.Dec.{ltb}
 use lib.IntN.{ℤ, pos}
 use lib.ListN.{length}
-use Rattle.arithmetic.specs.Choice.{if◌then◌else◌}
+use Rattle.arithmetic.specs.Choice.{when◌then◌else◌}
 use Rattle.arithmetic.proofs.Choice.{chosen}
 use Rattle.ranges.specs.Fields.{particulars, half_breadth, item, tank}
 use Rattle.ranges.specs.Outcome.{answered, refused}
@@ -62,7 +62,7 @@ module _ (p : Particulars) (h : List ℕ) (i t : List ℤ) (room : ℕ) where
 
   -- ---- 14, or the text
   module _ (o : Passes p h i t) where
-    pub passed : writer_of p h i t room ≡ (if ltb room (length (text_of p h i t)) then refused room_too_short (length (text_of p h i t)) else answered (text_of p h i t))
+    pub passed : writer_of p h i t room ≡ (when ltb room (length (text_of p h i t)) then refused room_too_short (length (text_of p h i t)) else answered (text_of p h i t))
     unfolding writer_by
     passed =
         simp

@@ -1,6 +1,6 @@
 -- What the writer promises of particulars, three tables and lent room.
 use Rattle.std.specs.Prelude.{ℕ, ◌+◌, ◌≡◌, not, List, map, ltb, eqb, ℤ, pos, length}
-use Rattle.arithmetic.specs.Choice.{if◌then◌else◌}
+use Rattle.arithmetic.specs.Choice.{when◌then◌else◌}
 use Rattle.ranges.specs.Fields.{particulars, half_breadth, item, tank}
 use Rattle.ranges.specs.Limits.{Limits, limits}
 use Rattle.ranges.specs.Outcome.{Outcome, answered, refused, answer_with, left_with}
@@ -20,14 +20,14 @@ writer_by allowed p half_breadths items tanks room =
     let badItem = first_outside item items in
     let badTank = first_outside tank tanks in
     let text = text_of p half_breadths items tanks in
-    if ltb bad_particular (length particulars) then refused out_of_range bad_particular
-    else if not (eqb (length half_breadths) (points_of p.n p.m)) then refused wrong_size half_breadth_table
-    else if not (whole_records item_width most_items (length items)) then refused wrong_size item_table
-    else if not (whole_records tank_width most_tanks (length tanks)) then refused wrong_size tank_table
-    else if ltb badHalfBreadth (length half_breadths) then refused out_of_range (place_of_half_breadths + badHalfBreadth)
-    else if ltb badItem (length items) then refused out_of_range (place_of_items + badItem)
-    else if ltb badTank (length tanks) then refused out_of_range (place_of_tanks + badTank)
-    else if ltb room (length text) then refused room_too_short (length text)
+    when ltb bad_particular (length particulars) then refused out_of_range bad_particular
+    else when not (eqb (length half_breadths) (points_of p.n p.m)) then refused wrong_size half_breadth_table
+    else when not (whole_records item_width most_items (length items)) then refused wrong_size item_table
+    else when not (whole_records tank_width most_tanks (length tanks)) then refused wrong_size tank_table
+    else when ltb badHalfBreadth (length half_breadths) then refused out_of_range (place_of_half_breadths + badHalfBreadth)
+    else when ltb badItem (length items) then refused out_of_range (place_of_items + badItem)
+    else when ltb badTank (length tanks) then refused out_of_range (place_of_tanks + badTank)
+    else when ltb room (length text) then refused room_too_short (length text)
     else answered text
 
 abbrev pub writer_of : Particulars → List ℕ → List ℤ → List ℤ → ℕ → Outcome (List ℕ)

@@ -1,6 +1,6 @@
 -- What shifts come to together, and how large the numbers of a test can be.
 use Rattle.std.specs.Prelude.{ℕ, ◌+◌, ◌*◌, ◌/◌, ◌%◌, ◌≤◌, ◌≡◌, List, ◌++◌, map, ltb, true, not, ℤ, pos, length, drop, get_or}
-use Rattle.arithmetic.specs.Choice.{if◌then◌else◌}
+use Rattle.arithmetic.specs.Choice.{when◌then◌else◌}
 use Rattle.ranges.specs.Fields.{least, most, item, z_range, shift, displacement, metacentre, test_surface, pendulum, shift_weight, shift_distance, shift_deflection}
 use Rattle.ranges.specs.Outside.{first_outside}
 use Rattle.ranges.specs.Sizes.{shift_width}
@@ -15,10 +15,10 @@ use Rattle.inclining.specs.declared.Test.{Test}
 -- the first table of a wrong size by its number, or how many tables there are
 unfoldable pub wrong_table : ℕ → ℕ → ℕ → ℕ → ℕ
 wrong_table shifts off on room =
-    if not (shifts_fit shifts) then shift_table
-    else if not (items_fit off) then off_table
-    else if not (items_fit on) then on_table
-    else if ltb room (shifts / shift_width) then gm_table
+    when not (shifts_fit shifts) then shift_table
+    else when not (items_fit off) then off_table
+    else when not (items_fit on) then on_table
+    else when ltb room (shifts / shift_width) then gm_table
     else gm_table + 1
 
 -- the total of weight times distance, and of deflection

@@ -1,7 +1,7 @@
 -- Tables in range, sums of them, and numbers of either sign as two whole ones.
 use Rattle.std.specs.Prelude.{ℕ, ◌+◌, ◌-◌, ◌*◌, ◌≤◌, ◌<◌, ◌≡◌, List, ℤ, pos, ◌-ℤ◌, length, get_or}
 use Rattle.std.specs.Int.Signed.{lt_z}
-use Rattle.arithmetic.specs.Choice.{if◌then◌else◌}
+use Rattle.arithmetic.specs.Choice.{when◌then◌else◌}
 use Rattle.ranges.specs.Fields.{most, metacentre}
 use Rattle.simpson.specs.Curve.{curve}
 use Rattle.levers.specs.Sines.{angle_count}
@@ -17,7 +17,7 @@ lever_parts kn off i = record { whole = get_or kn i 0; off = get_or off i 0 }
 
 -- of two angles the one with the greater lever, and the first where they are alike
 abbrev pub greater_of : (ℕ → ℤ) → ℕ → ℕ → ℕ
-greater_of gz first i = if lt_z (gz first) (gz i) then i else first
+greater_of gz first i = when lt_z (gz first) (gz i) then i else first
 
 -- the multiplied sum over a table from one angle to another, by number
 abbrev pub sum_over : List ℕ → ℕ → ℕ → ℕ

@@ -1,6 +1,6 @@
 -- A usable table of rows in the lent list, and where a weight within it floats: the words of private contracts.
 use Rattle.std.specs.Prelude.{ℕ, ◌+◌, ◌*◌, ◌-◌, ◌≤◌, ◌<◌, ◌≡◌, List, ltb, length}
-use Rattle.arithmetic.specs.Choice.{if◌then◌else◌}
+use Rattle.arithmetic.specs.Choice.{when◌then◌else◌}
 use Rattle.ranges.specs.Fields.{most, highest_metacentre}
 use Rattle.ranges.specs.Private.InRange.{row_range}
 use Rattle.hydrostatics.specs.Usable.{row_in, usable_up_to}
@@ -25,7 +25,7 @@ pub record RowsUsable (rows : List ℕ) (count : ℕ) : Type 0 where
 
 -- the first row that is not usable, or the count
 pub record RowsTried (rows : List ℕ) (count bad : ℕ) : Type 0 where
-  pub is : usable_up_to rows count ≡ (if ltb bad count then refused rows_not_usable bad else answered count)
+  pub is : usable_up_to rows count ≡ (when ltb bad count then refused rows_not_usable bad else answered count)
 
 -- neither refusal 11 nor 12
 pub record Within (t : Table) (W : ℕ) : Type 0 where

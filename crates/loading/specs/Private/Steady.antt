@@ -1,7 +1,7 @@
 -- The condition made of what is aboard, added up, at a draft and the KM there: the words of private contracts.
 use Rattle.std.specs.Prelude.{ℕ, ◌+◌, ◌*◌, ◌/◌, ◌≤◌, ◌<◌, Bool, ◌&&◌, List, ltb, ℤ, pos, negsuc, nat_abs, ◌-ℤ◌}
 use Rattle.std.specs.Int.Signed.{le_z}
-use Rattle.arithmetic.specs.Choice.{if◌then◌else◌}
+use Rattle.arithmetic.specs.Choice.{when◌then◌else◌}
 use Rattle.arithmetic.specs.Rounding.{rounded_up}
 use Rattle.ranges.specs.Fields.{most, highest_metacentre, y_range}
 use Rattle.ranges.specs.Outcome.{Outcome, answered, refused, and_then}
@@ -67,8 +67,8 @@ pub record Moderate (weight : ℕ) (gm my : ℤ) : Type 0 where
 -- what is aboard against a table: 11 below the first row, 12 above the last
 unfoldable pub floats_with : Reading → Table → Aboard → Outcome Condition
 floats_with reading t a =
-    if ltb a.weight t.first.displacement then refused too_light 0
-    else if ltb (last_row t).displacement a.weight then refused too_heavy 0
+    when ltb a.weight t.first.displacement then refused too_light 0
+    else when ltb (last_row t).displacement a.weight then refused too_heavy 0
     else answered (condition_with a (draft_of t a.weight) (km_at (paper_rules reading) t a.weight))
 
 -- once sizes, rows and items are allowed: the tanks, and then the weight

@@ -1,6 +1,6 @@
 -- A number by its sign and its size: what the functions below the public ones promise.
 use Rattle.std.specs.Prelude.{ℕ, ◌+◌, ◌≤◌, Bool, true, false, not, ◌&&◌, ◌≡◌, List, eqb, ℤ, pos, neg_ℤ, length, drop}
-use Rattle.arithmetic.specs.Choice.{if◌then◌else◌}
+use Rattle.arithmetic.specs.Choice.{when◌then◌else◌}
 use Rattle.numerals.specs.Number.{is_whole, value}
 use Rattle.numerals.specs.Front.{digits_of, enough_digits, ends_at}
 use Rattle.numerals.specs.declared.reading.Digits.{Digits}
@@ -16,7 +16,7 @@ with_sign false n = pos n
 -- what digits say, after a minus or none: "no minus zero"
 unfoldable pub said_by : Bool → List ℕ → Number
 said_by minus digits =
-    if is_whole digits && not (minus && eqb (value digits) 0) then Is (with_sign minus (value digits)) else Not
+    when is_whole digits && not (minus && eqb (value digits) 0) then Is (with_sign minus (value digits)) else Not
 
 -- the digits of a text from a place on, ten at the most
 abbrev pub digits_from : List ℕ → ℕ → List ℕ

@@ -1,6 +1,6 @@
 -- What the private functions of the reader find by place, told on the tokens. No promise needs these words: they tie the code to `Reading` and `File`.
 use Rattle.std.specs.Prelude.{ℕ, zero, suc, ◌+◌, ◌*◌, ◌%◌, ◌≤◌, ◌<◌, ◌≡◌, Bool, true, false, List, [], ◌∷◌, ltb, ℤ, pos, nat_abs, length, take, drop, get_or}
-use Rattle.arithmetic.specs.Choice.{if◌then◌else◌}
+use Rattle.arithmetic.specs.Choice.{when◌then◌else◌}
 use Rattle.ranges.specs.Fields.{Range, range_of, within, particulars, half_breadth}
 use Rattle.ranges.specs.Limits.{limits}
 use Rattle.ranges.specs.Outcome.{Outcome, answered, refused, and_then}
@@ -23,7 +23,7 @@ tokens_at text place = tokens_from place [] (drop place text)
 
 -- a token that ends before this place has no byte here
 unfoldable pub ends_here : List ℕ → ℕ → Bool
-ends_here text place = if ltb place (length text) then is_separator (get_or text place 0) else true
+ends_here text place = when ltb place (length text) then is_separator (get_or text place 0) else true
 
 -- the first of some tokens
 pub record Begins (first : Token) (tokens : List Token) : Type 0 where
@@ -119,7 +119,7 @@ Finishes text step r = (c : Contents) → and_then (on_step text step) (λ at. c
 -- n and m of a hull's numbers make so many points; none where they are out of range
 unfoldable pub points_in : List ℤ → ℕ
 points_in hull =
-    if within (range_of 0) (pos (nat_abs (get_or hull 0 (pos 0)))) then (if within (range_of 1) (pos (nat_abs (get_or hull 1 (pos 0)))) then points hull else 0)
+    when within (range_of 0) (pos (nat_abs (get_or hull 0 (pos 0)))) then (when within (range_of 1) (pos (nat_abs (get_or hull 1 (pos 0)))) then points hull else 0)
     else 0
 
 -- a whole file was read into the front of four tables

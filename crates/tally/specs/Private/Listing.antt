@@ -1,6 +1,6 @@
 -- The items aboard in a table with room for all slots, and slots in range: the words of private contracts.
 use Rattle.std.specs.Prelude.{true, ◌≡◌, List, ℕ, ◌≤◌, ◌<◌, length, take, set}
-use Rattle.arithmetic.specs.Choice.{if◌then◌else◌}
+use Rattle.arithmetic.specs.Choice.{when◌then◌else◌}
 use Rattle.ranges.specs.Sizes.{item_width}
 use Rattle.tally.specs.Tally.{slot_count, aboard, table_of, in_range}
 use Rattle.tally.specs.declared.Slot.{Slot}
@@ -8,7 +8,7 @@ use Rattle.tally.specs.declared.Tally.{Tally}
 use Rattle.tally.specs.declared.listing.Listed.{Listed}
 
 abbrev pub room_in : Slot → ℕ
-room_in s = if s.filled then item_width else 0
+room_in s = when s.filled then item_width else 0
 
 -- what counts of a table is the items aboard
 pub record Lists (slots : List Slot) (r : Listed) : Type 0 where
