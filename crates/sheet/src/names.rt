@@ -2,6 +2,8 @@
 ghost use Rattle.sheet.specs.Names.{Names, Asks};
 
 use loading::Reading;
+use std::env::FillError;
+use std::rt::Env;
 
 // What a word names.
 #[derive(Clone, Copy)]
@@ -17,13 +19,11 @@ const LONGEST_NAME: usize = 13;
 fn reading_of(word: &[u8]) -> Named
     ensures { Names word.now result }
 {
-    if check::same(word, b"lesser") {
-        return Named::By(Reading::Lesser);
+    match word {
+        b"lesser" => Named::By(Reading::Lesser),
+        b"straight-line" => Named::By(Reading::StraightLine),
+        _ => Named::Unknown,
     }
-    if check::same(word, b"straight-line") {
-        return Named::By(Reading::StraightLine);
-    }
-    Named::Unknown
 }
 
 // What so many words ask for, the program's own name the first and this one after it.
@@ -39,9 +39,20 @@ fn meant(words: usize, word: &[u8]) -> Named
     reading_of(word)
 }
 
+// How many words there are on the command line, the program's own name among them.
+fn count_words(rt: &HostRuntime) -> usize {
+    for i in 0..usize::MAX {
+        if let Err(FillError::NotPresent) = rt.arg(i, &mut []) {
+            return i;
+        }
+    }
+    usize::MAX
+}
+
 // What the command line asks for.
-pub(crate) fn asked() -> Named {
+pub(crate) fn asked(rt: &HostRuntime) -> Named {
     let mut word = [0u8; LONGEST_NAME];
-    let length = os::arg(1, &mut word);
-    meant(os::arg_count(), &word[..length])
+    // A word that is missing or longer counts as empty, which is no name.
+    let length = rt.arg(1, &mut word).unwrap_or(0);
+    meant(count_words(rt), &word[..length])
 }

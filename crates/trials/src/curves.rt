@@ -1,20 +1,21 @@
 // The worked example of the course notes: a semicircle of radius 6, by three, four and five ordinates. Its areas there: 48, 50.912 and 53.569.
 use crate::say;
 use simpson::CurveSum;
+use std::io;
 
 // Ordinates in millionths; 6, 4 and 3 are the intervals.
-pub(crate) fn print_all() {
-    print_area(24_000 / 6, &[0, 6_000_000, 0]);
-    print_area(24_000 / 4, &[0, 5_656_854, 5_656_854, 0]);
-    print_area(24_000 / 3, &[0, 5_196_152, 6_000_000, 5_196_152, 0]);
+pub(crate) fn print_all(rt: &impl Print) -> io::Result<()> {
+    print_area(rt, 24_000 / 6, &[0, 6_000_000, 0])?;
+    print_area(rt, 24_000 / 4, &[0, 5_656_854, 5_656_854, 0])?;
+    print_area(rt, 24_000 / 3, &[0, 5_196_152, 6_000_000, 5_196_152, 0])
 }
 
 // The area in thousandths, given how many parts of the sum make one.
-fn print_area(parts: u64, ordinates: &[u64]) {
+fn print_area(rt: &impl Print, parts: u64, ordinates: &[u64]) -> io::Result<()> {
     match simpson::curve_sum(ordinates) {
-        CurveSum::Sum(sum) => say::number(b"semicircle ", nearest(sum, parts)),
-        CurveSum::TooShort => say::bytes(b"too short\n"),
-        CurveSum::TooLarge => say::bytes(b"too large\n"),
+        CurveSum::Sum(sum) => say::number(rt, b"semicircle ", nearest(sum, parts)),
+        CurveSum::TooShort => say::bytes(rt, b"too short\n"),
+        CurveSum::TooLarge => say::bytes(rt, b"too large\n"),
     }
 }
 

@@ -1,8 +1,11 @@
 // The files of data/, by what they hold and their number.
 ghost use Rattle.std.specs.Prelude.{◌+◌, ◌≤◌, length};
-ghost use Rattle.io.specs.Counts.{IsPrefixLen};
+ghost use Rattle.std.specs.Io.{ReadsAtMost};
 
 use loading::Reading;
+use std::io::Read;
+use std::rt::Files;
+use std::{fs, io};
 
 // Files are numbered by three digits.
 pub(crate) const NUMBERS: u64 = 1_000;
@@ -49,11 +52,11 @@ fn digit(n: u64) -> u8 {
 fn put(piece: &[u8], name: &mut [u8], at: usize)
     requires { at + length piece.now ≤ length name.old }
 {
-    bytes::copy(piece, &mut name[at..]);
+    name[at..at + piece.len()].copy_from_slice(piece);
 }
 
 // Opens the file whose name is a number between a start and an end.
-fn open_named(start: &[u8], i: u64, end: &[u8]) -> i32
+fn open_named<R: Files>(rt: &R, start: &[u8], i: u64, end: &[u8]) -> io::Result<R::File>
     requires { length start.now + 3 + length end.now ≤ 21 }
 {
     let number = [digit(i / 100), digit(i / 10), digit(i)];
@@ -64,61 +67,61 @@ fn open_named(start: &[u8], i: u64, end: &[u8]) -> i32
     put(start, &mut name, 0);
     put(&number, &mut name, at);
     put(end, &mut name, after);
-    os::open_read(&name[0..whole])
+    match str::from_utf8(&name[0..whole]) {
+        Ok(path) => fs::open(rt, path),
+        Err(_) => Err(io::Error::from(io::ErrorKind::InvalidFilename)),
+    }
 }
 
 // Opens the file of offsets or of a sheet by the reading asked of it.
-fn open_by(reading: Reading, i: u64, end: &[u8]) -> i32
+fn open_by<R: Files>(rt: &R, reading: Reading, i: u64, end: &[u8]) -> io::Result<R::File>
     requires { length end.now ≤ 4 }
 {
     match reading {
-        Reading::Lesser => open_named(b"", i, end),
-        Reading::StraightLine => open_named(b"straight-line-", i, end),
+        Reading::Lesser => open_named(rt, b"", i, end),
+        Reading::StraightLine => open_named(rt, b"straight-line-", i, end),
     }
 }
 
 // Opens the file of a call.
-fn open_of(call: Call, i: u64, end: &[u8]) -> i32
+fn open_of<R: Files>(rt: &R, call: Call, i: u64, end: &[u8]) -> io::Result<R::File>
     requires { length end.now ≤ 4 }
 {
     match call {
-        Call::Tally => open_named(b"tally-", i, end),
-        Call::Hopper => open_named(b"hopper-", i, end),
-        Call::Inclining => open_named(b"inclining-", i, end),
-        Call::Profile => open_named(b"profile-", i, end),
+        Call::Tally => open_named(rt, b"tally-", i, end),
+        Call::Hopper => open_named(rt, b"hopper-", i, end),
+        Call::Inclining => open_named(rt, b"inclining-", i, end),
+        Call::Profile => open_named(rt, b"profile-", i, end),
     }
 }
 
 // Opens the file of this kind and number.
-fn open(kind: Kind, i: u64) -> i32 {
+fn open<R: Files>(rt: &R, kind: Kind, i: u64) -> io::Result<R::File> {
     match kind {
-        Kind::Offsets(reading) => open_by(reading, i, b".txt"),
-        Kind::Sheet(reading) => open_by(reading, i, b".out"),
-        Kind::Given(call) => open_of(call, i, b".in"),
-        Kind::Answer(call) => open_of(call, i, b".out"),
+        Kind::Offsets(reading) => open_by(rt, reading, i, b".txt"),
+        Kind::Sheet(reading) => open_by(rt, reading, i, b".out"),
+        Kind::Given(call) => open_of(rt, call, i, b".in"),
+        Kind::Answer(call) => open_of(rt, call, i, b".out"),
     }
 }
 
 // Whether there is a file of this kind and number.
-pub(crate) fn is_there(kind: Kind, i: u64) -> bool {
-    let fd = open(kind, i);
-    if fd < 0 {
-        return false;
-    }
-    libc::close(fd);
-    true
+pub(crate) fn is_there(rt: &impl Files, kind: Kind, i: u64) -> bool {
+    open(rt, kind, i).is_ok()
 }
 
-// Puts its bytes into the room, and answers how many; says so where it is missing.
-pub(crate) fn read(kind: Kind, i: u64, text: &mut [u8]) -> usize
-    ensures { IsPrefixLen result text.new }
+// Puts its bytes into the room, and answers how many.
+pub(crate) fn read(rt: &impl Files, kind: Kind, i: u64, text: &mut [u8]) -> io::Result<usize>
+    ensures { ReadsAtMost result text.new }
 {
-    let fd = open(kind, i);
-    if fd < 0 {
-        os::fail(b"data");
-        return 0;
+    let mut file = open(rt, kind, i)?;
+    let mut count = 0;
+    while count < text.len() {
+        let more = file.read(&mut text[count..])?;
+        if more == 0 {
+            return Ok(count);
+        }
+        count += more;
     }
-    let count = io::read_full(fd, text);
-    libc::close(fd);
-    count
+    Ok(count)
 }

@@ -8,6 +8,8 @@ use loading::Reading;
 use offsets::Read;
 use ranges::Particulars;
 use report::Report;
+use std::io;
+use std::rt::Files;
 use writer::Written;
 
 // There are no fewer than these, so that a lost one is noticed.
@@ -29,68 +31,71 @@ struct Trial {
 }
 
 // Tries the files of the lesser KM, which is the default, then those of the straight line.
-pub(crate) fn try_all() {
-    try_by(Reading::Lesser, FEWEST, b"sheets that differ ");
+pub(crate) fn try_all(rt: &(impl Files + Print)) -> io::Result<()> {
+    try_by(rt, Reading::Lesser, FEWEST, b"sheets that differ ")?;
     try_by(
+        rt,
         Reading::StraightLine,
         FEWEST_BY_STRAIGHT_LINE,
         b"sheets by the straight line that differ ",
-    );
+    )
 }
 
 // Prints which files of a reading fail and how many, after a name, and where some are lost.
-fn try_by(reading: Reading, fewest: u64, name: &[u8]) {
+fn try_by(rt: &(impl Files + Print), reading: Reading, fewest: u64, name: &[u8]) -> io::Result<()> {
     let mut tried: u64 = 0;
     let mut differing: u64 = 0;
     let mut changed: u64 = 0;
     let mut i: u64 = 0;
     while i < data::NUMBERS {
-        let trial = trial_at(reading, i);
+        let trial = trial_at(rt, reading, i)?;
         tried = data::counted(tried, trial.there);
         differing = data::counted(differing, trial.differs);
         changed = data::counted(changed, trial.changed);
-        print_failing(i, trial);
+        print_failing(rt, i, trial)?;
         i += 1;
     }
-    say::number(name, differing);
-    say::number(b"files changed when written and read again ", changed);
+    say::number(rt, name, differing)?;
+    say::number(rt, b"files changed when written and read again ", changed)?;
     if tried < fewest {
-        say::number(b"files are lost, and only these left ", tried);
+        say::number(rt, b"files are lost, and only these left ", tried)?;
     }
+    Ok(())
 }
 
 // A file fails where its sheet differs, or it is read and does not come back alike.
-fn print_failing(i: u64, trial: Trial) {
+fn print_failing(rt: &impl Print, i: u64, trial: Trial) -> io::Result<()> {
     if trial.differs || trial.changed {
-        say::number(b"fails ", i);
+        say::number(rt, b"fails ", i)?;
     }
+    Ok(())
 }
 
 // What trying the file of this number shows; nothing where there is none.
-fn trial_at(reading: Reading, i: u64) -> Trial {
-    if data::is_there(Kind::Offsets(reading), i) {
-        return trial_of(reading, i);
+fn trial_at(rt: &impl Files, reading: Reading, i: u64) -> io::Result<Trial> {
+    if data::is_there(rt, Kind::Offsets(reading), i) {
+        return trial_of(rt, reading, i);
     }
-    Trial {
+    Ok(Trial {
         there: false,
         differs: false,
         changed: false,
-    }
+    })
 }
 
-fn trial_of(reading: Reading, i: u64) -> Trial {
+fn trial_of(rt: &impl Files, reading: Reading, i: u64) -> io::Result<Trial> {
     let mut text = [0u8; LONGEST_INPUT];
-    let count = data::read(Kind::Offsets(reading), i, &mut text);
-    let differs = !is_answer(reading, i, &text[..count]);
+    let count = data::read(rt, Kind::Offsets(reading), i, &mut text)?;
+    let differs = !is_answer(rt, reading, i, &text[..count])?;
     let mut half_breadths = [0u64; ranges::HALF_BREADTH_ROOM];
     let mut items = [0i64; ranges::ITEM_ROOM];
     let mut tanks = [0i64; ranges::TANK_ROOM];
     match offsets::read_file(&text[..count], &mut half_breadths, &mut items, &mut tanks) {
-        Read::Refused(_) => Trial {
+        Read::Refused(_) => Ok(Trial {
             there: true,
             differs,
             changed: false,
-        },
+        }),
         Read::Sheet(summary) => {
             let p = summary.particulars;
             let points = points_of(p);
@@ -102,11 +107,11 @@ fn trial_of(reading: Reading, i: u64) -> Trial {
                 &items[..item_numbers],
                 &tanks[..tank_numbers],
             );
-            Trial {
+            Ok(Trial {
                 there: true,
                 differs,
                 changed,
-            }
+            })
         }
     }
 }
@@ -120,15 +125,15 @@ fn make_sheet(reading: Reading, text: &[u8], lines: &mut [u8]) -> Report {
 }
 
 // Whether the sheet of file i's text is the answer that stands beside it.
-fn is_answer(reading: Reading, i: u64, text: &[u8]) -> bool {
+fn is_answer(rt: &impl Files, reading: Reading, i: u64, text: &[u8]) -> io::Result<bool> {
     let mut answer = [0u8; report::LONGEST_SHEET];
-    let answer_count = data::read(Kind::Sheet(reading), i, &mut answer);
+    let answer_count = data::read(rt, Kind::Sheet(reading), i, &mut answer)?;
     let mut lines = [0u8; report::LONGEST_SHEET];
     match make_sheet(reading, text, &mut lines) {
-        Report::Refused(_) => false,
+        Report::Refused(_) => Ok(false),
         Report::Lines(count) => {
             let end = at_most(count, report::LONGEST_SHEET);
-            check::same(&lines[..end], &answer[..answer_count])
+            Ok(&lines[..end] == &answer[..answer_count])
         }
     }
 }

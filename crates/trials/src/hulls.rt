@@ -5,6 +5,8 @@ use hydrostatics::Rows;
 use loading::Reading;
 use offsets::Read;
 use ranges::Particulars;
+use std::io;
+use std::rt::Files;
 
 // There are no fewer than these, so that a lost one is noticed.
 const FEWEST: u64 = 101;
@@ -17,27 +19,28 @@ struct Beside {
 }
 
 // Prints which hulls the two differ on and how many, and where some are lost.
-pub(crate) fn try_all() {
+pub(crate) fn try_all(rt: &(impl Files + Print)) -> io::Result<()> {
     let mut tried: u64 = 0;
     let mut differing: u64 = 0;
     let mut i: u64 = 0;
     while i < data::NUMBERS {
-        let beside = beside_at(i);
+        let beside = beside_at(rt, i)?;
         tried = data::counted(tried, beside.there);
         differing = data::counted(differing, beside.differs);
         if beside.differs {
-            say::number(b"fails ", i);
+            say::number(rt, b"fails ", i)?;
         }
         i += 1;
     }
-    say::number(b"hulls whose rows by sections differ ", differing);
+    say::number(rt, b"hulls whose rows by sections differ ", differing)?;
     if tried < FEWEST {
-        say::number(b"hulls are lost, and only these left ", tried);
+        say::number(rt, b"hulls are lost, and only these left ", tried)?;
     }
+    Ok(())
 }
 
 // What the file of this number shows; nothing where there is none, or it is not read.
-fn beside_at(i: u64) -> Beside {
+fn beside_at(rt: &impl Files, i: u64) -> io::Result<Beside> {
     let mut text = [0u8; files::LONGEST_INPUT];
     let mut half_breadths = [0u64; ranges::HALF_BREADTH_ROOM];
     let mut items = [0i64; ranges::ITEM_ROOM];
@@ -46,8 +49,8 @@ fn beside_at(i: u64) -> Beside {
         there: false,
         differs: false,
     };
-    if data::is_there(Kind::Offsets(Reading::Lesser), i) {
-        let count = data::read(Kind::Offsets(Reading::Lesser), i, &mut text);
+    if data::is_there(rt, Kind::Offsets(Reading::Lesser), i) {
+        let count = data::read(rt, Kind::Offsets(Reading::Lesser), i, &mut text)?;
         if let Read::Sheet(summary) = offsets::read_file(
             &text[..count],
             &mut half_breadths,
@@ -62,7 +65,7 @@ fn beside_at(i: u64) -> Beside {
             };
         }
     }
-    beside
+    Ok(beside)
 }
 
 // Whether both calculations answer alike, and leave the same in room for the rows of any hull.

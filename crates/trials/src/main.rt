@@ -1,5 +1,6 @@
 // Runs what is not proved by computing: outside files, their hulls by both engines, outside cases of the other calls, a worked example, and conditions at their limits. What it must print stands in stdout.
 #![tactic(auto)]
+
 mod calls;
 mod conditions;
 mod curves;
@@ -14,10 +15,17 @@ mod surfaces;
 mod tables;
 mod tallies;
 
-fn main() {
-    files::try_all();
-    hulls::try_all();
-    calls::try_all();
-    curves::print_all();
-    conditions::print_all();
+use std::io;
+use std::rt::Files;
+
+fn run(rt: &(impl Files + Print)) -> io::Result<()> {
+    files::try_all(rt)?;
+    hulls::try_all(rt)?;
+    calls::try_all(rt)?;
+    curves::print_all(rt)?;
+    conditions::print_all(rt)
+}
+
+fn main(rt: HostRuntime) -> io::Result<()> {
+    run(&rt)
 }

@@ -38,7 +38,7 @@ pub(crate) fn after(text: &[u8], at: usize, piece: &[u8]) -> usize {
         return NOWHERE;
     }
     let end = at + piece.len();
-    if check::same(&text[at..end], piece) {
+    if &text[at..end] == piece {
         return end;
     }
     NOWHERE

@@ -1,29 +1,22 @@
 // Printing to standard output.
-use libc::STDOUT_FILENO;
+use std::io;
 
-pub(crate) fn bytes(text: &[u8]) {
-    io::write_all(STDOUT_FILENO, text);
+pub(crate) fn bytes(rt: &impl Print, text: &[u8]) -> io::Result<()> {
+    rt.write_all(text)
 }
 
 // A name and a number, on a line.
-pub(crate) fn number(name: &[u8], n: u64) {
-    bytes(name);
-    io::print_decimal(STDOUT_FILENO, n);
-    bytes(b"\n");
+pub(crate) fn number(rt: &impl Print, name: &[u8], n: u64) -> io::Result<()> {
+    bytes(rt, name)?;
+    println!(rt; "{n}")
 }
 
 // A number after a space.
-pub(crate) fn field(v: i64) {
-    if arithmetic::is_negative(v) {
-        bytes(b" -");
-    } else {
-        bytes(b" ");
-    }
-    io::print_decimal(STDOUT_FILENO, arithmetic::magnitude(v));
+pub(crate) fn field(rt: &impl Print, v: i64) -> io::Result<()> {
+    print!(rt; " {v}")
 }
 
 // The same for a whole number.
-pub(crate) fn whole(n: u64) {
-    bytes(b" ");
-    io::print_decimal(STDOUT_FILENO, n);
+pub(crate) fn whole(rt: &impl Print, n: u64) -> io::Result<()> {
+    print!(rt; " {n}")
 }
