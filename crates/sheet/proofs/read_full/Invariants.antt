@@ -1,4 +1,4 @@
--- The bytes so far stand at the start of the room, which keeps its length.
+-- The bytes so far stand at the start of the room, which keeps its length. Assumes nothing.
 use Rattle.std.proofs.Common.{length, take, ◌-◌, ◌≤◌, ◌≡◌}
 use Rattle.std.specs.Io.KnownBytes.{Consumes}
 use Rattle.sheet.proofs.read_full.Given as goal
