@@ -1,4 +1,4 @@
--- The bytes so far stand at the start of the room, which keeps its length. Assumes nothing.
+-- The room keeps its length, and what was read is no longer.
 use Rattle.std.proofs.Common.{length, ◌-◌, ◌≤◌, ◌≡◌}
 use Rattle.trials.proofs.data.read.Given as goal
 
