@@ -1,6 +1,7 @@
 -- The laws of this crate, for every crate above it.
 pub mod Within
 pub mod Outside
+mod Held
 pub mod Hulls
 pub mod Facts
 pub mod Longer

@@ -1,7 +1,8 @@
 -- Outcomes taken apart: what an answer tells of the steps that led to it.
 --     refused_not                  no refusal is an answer; `sym` tells the other way round
 --     answer_same                  equal answers have one value
---     refusal_same                 a refusal is known from its number and place
+--     reason_same, refusal_same    a reason is known from its number, and a refusal from its number and place
+--     answer_known, paper_ok       a call's answer is known from what it says in the paper's words; an answer so
 --     not_refused, was_passed      before an answer a test gave no refusal, where it refuses when true and when false
 --     was_refused                  what is refused after a test whose other way answers was refused by the test
 --     answered_then                what is answered in the end was answered on the way
@@ -9,14 +10,19 @@
 --     left_refused                 a refusal leaves a lent table as it was
 --     then_assoc                   three steps, joined from either end
 -- Assumes nothing.
-use mathlib.Core.Path.{◌≡◌, refl, sym, ap₂}
+use mathlib.Core.Path.{◌≡◌, refl, sym, ap, ap₂, ◌∙◌}
 use mathlib.Core.Bool.{Bool, true, false}
-use mathlib.Core.List.{List}
+use mathlib.Core.List.{List, [], ◌∷◌}
 use Prim.Native.Nat.{ℕ}
 use native.Mathlib.Omega.{arith}
 use Rattle.arithmetic.specs.Choice.{when◌then◌else◌}
 use Rattle.ranges.specs.Outcome.{Outcome, answered, refused, and_then, answer_with, left_with}
-use Rattle.ranges.specs.declared.Refusal.{Refusal}
+use Rattle.ranges.specs.Reasons.{number_of, paper}
+use Rattle.ranges.specs.declared.refusal.Reason.{Reason}
+use Rattle.ranges.specs.declared.refusal.Reason.TheVariants.{FileTooLong, NotANumber, CountNotAllowed, OutOfRange, EndsTooEarly, TokenAfterEnd, WrongSize, DisplacementNotRising, MetacentreTooHigh, RowsNotUsable, TooLight, TooHeavy, ContentsAboveCapacity, RoomTooShort, NoSuchSlot, SlotTaken, SlotEmpty, NoLightWeight, LightMomentNegative, TallyUnsound}
+use Rattle.ranges.specs.declared.refusal.Refusal.{Refusal}
+use Rattle.std.specs.Prelude.{Result, Ok, Err}
+use lib.ListN.{get_or}
 
 pub refused_not : {A X : Type 0} {number place : ℕ} {a : A} → ◌≡◌ {A = Outcome A} (refused number place) (answered a) → X
 refused_not e = let z : ◌≡◌ {A = ℕ} 0 1 = cc in absurd (omega arith)
@@ -24,8 +30,49 @@ refused_not e = let z : ◌≡◌ {A = ℕ} 0 1 = cc in absurd (omega arith)
 pub answer_same : {A : Type 0} {a b : A} → ◌≡◌ {A = Outcome A} (answered a) (answered b) → a ≡ b
 answer_same e = cc
 
-pub refusal_same : {A : Type 0} (r s : Refusal) → ◌≡◌ {A = Outcome A} (refused r.number r.place) (refused s.number s.place) → r ≡ s
-refusal_same r s e = ap₂ (λ n p. record { number = n; place = p }) (cc) (cc)
+-- each reason has a number of its own: the list has the reason of a number at that place, and any one where there is none
+abbrev named : ℕ → Reason
+named number =
+    get_or (FileTooLong ∷ FileTooLong ∷ NotANumber ∷ CountNotAllowed ∷ OutOfRange ∷ EndsTooEarly ∷ TokenAfterEnd ∷ WrongSize ∷ DisplacementNotRising ∷ MetacentreTooHigh ∷ RowsNotUsable ∷ TooLight ∷ TooHeavy ∷ ContentsAboveCapacity ∷ RoomTooShort ∷ NoSuchSlot ∷ SlotTaken ∷ SlotEmpty ∷ FileTooLong ∷ FileTooLong ∷ NoLightWeight ∷ LightMomentNegative ∷ TallyUnsound ∷ []) number FileTooLong
+
+named_by : (r : Reason) → named (number_of r) ≡ r
+named_by FileTooLong = refl
+named_by NotANumber = refl
+named_by CountNotAllowed = refl
+named_by OutOfRange = refl
+named_by EndsTooEarly = refl
+named_by TokenAfterEnd = refl
+named_by WrongSize = refl
+named_by DisplacementNotRising = refl
+named_by MetacentreTooHigh = refl
+named_by RowsNotUsable = refl
+named_by TooLight = refl
+named_by TooHeavy = refl
+named_by ContentsAboveCapacity = refl
+named_by RoomTooShort = refl
+named_by NoSuchSlot = refl
+named_by SlotTaken = refl
+named_by SlotEmpty = refl
+named_by NoLightWeight = refl
+named_by LightMomentNegative = refl
+named_by TallyUnsound = refl
+
+pub reason_same : {r s : Reason} → number_of r ≡ number_of s → r ≡ s
+reason_same {r} {s} e = sym (named_by r) ∙ ap named e ∙ named_by s
+
+pub refusal_same : {A : Type 0} (r s : Refusal) → ◌≡◌ {A = Outcome A} (refused (number_of r.reason) r.place) (refused (number_of s.reason) s.place) → r ≡ s
+refusal_same r s e = ap₂ (λ why p. record { reason = why; place = p }) (reason_same (cc)) (cc)
+
+-- a call's answer is known from what it says in the paper's words
+pub answer_known : {A : Type 0} (a b : Result A Refusal) → paper a ≡ paper b → a ≡ b
+answer_known (Ok a) (Ok b) e = ap Ok (answer_same e)
+answer_known (Ok a) (Err s) e = refused_not (sym e)
+answer_known (Err r) (Ok b) e = refused_not e
+answer_known (Err r) (Err s) e = ap Err (refusal_same r s e)
+
+-- and what it says: an answer's values, a refusal's reason and place
+pub paper_ok : {A : Type 0} {r : Result A Refusal} {a : A} → paper r ≡ answered a → r ≡ Ok a
+paper_ok {r} {a} e = answer_known r (Ok a) e
 
 -- ---- tests
 pub not_refused : {A : Type 0} {t : Bool} {other : Outcome A} {a : A} (number place : ℕ) → (when t then refused number place else other) ≡ answered a → (t ≡ false) × (other ≡ answered a)

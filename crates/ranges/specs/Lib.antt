@@ -1,6 +1,7 @@
 -- The paper's limits, refusals and outcomes, each stated once.
 pub mod Refusals
 pub mod Outcome
+pub mod Reasons
 pub mod Limits
 pub mod Fields
 pub mod Sizes

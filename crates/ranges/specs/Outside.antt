@@ -23,10 +23,6 @@ outside_then section table further =
     let outside = first_outside section table in
     when ltb outside (length table) then outside else length table + further
 
--- the field after a field of a record, where a record's fields follow one another again and again
-unfoldable pub field_after : ℕ → ℕ → ℕ
-field_after field width = when ltb (field + 1) width then field + 1 else 0
-
 -- the particulars in the file's order
 abbrev pub numbers_of : Particulars → List ℤ
 numbers_of p = map pos (p.n ∷ p.m ∷ p.s ∷ p.d ∷ p.density ∷ [])

@@ -26,10 +26,10 @@ by_quotient length n s some = told (less_or_not length (n * s))
         beyond (inr h) = absurd (omega (arith, least.0 h, mul_comm n s))
     told (inr inside) = le-ltb _ _ (least.1 (omega (arith, mul_comm n s))) ∙ sym (le-ltb _ _ inside)
 
-pub returns-then-n-eq0 : goal.returns-then-n-eq0
+pub returns-else-n-ne0 : goal.returns-else-n-ne0
 unfolding too_long
-returns-then-n-eq0 c = rw (c.if-n-eq0.true, zero-mul) refl
+returns-else-n-ne0 c = rw (c.if-n-ne0.false, zero-mul) refl
 
-pub returns : goal.returns
+pub returns-then-n-ne0 : goal.returns-then-n-ne0
 unfolding too_long
-returns c = let p = c.args.p in by_quotient limits.longest_hull p.n p.s (omega (arith, c.if-n-eq0.false))
+returns-then-n-ne0 c = let p = c.args.p in by_quotient limits.longest_hull p.n p.s (omega (arith, c.if-n-ne0.true))

@@ -20,6 +20,6 @@ pub returns-then-count-width-eq0 : goal.returns-then-count-width-eq0
 unfolding whole_records
 returns-then-count-width-eq0 c = rw (eq-eqb _ _ c.if-count-width-eq0.true)
 
-pub returns : goal.returns
+pub returns-else-count-width-eq0 : goal.returns-else-count-width-eq0
 unfolding whole_records
-returns c = rw (ne_eqb _ _ c.if-count-width-eq0.false)
+returns-else-count-width-eq0 c = rw (ne_eqb _ _ c.if-count-width-eq0.false)

@@ -1,14 +1,29 @@
--- A range as the code keeps it: its least number from 0 on, its greatest, and whether it reaches as far below 0.
-use Rattle.std.specs.Prelude.{ℕ, true, false, List, [], ◌∷◌}
-use Rattle.ranges.specs.Fields.{Range, ◌to◌, ±◌}
-use Rattle.ranges.specs.declared.Bounds.{Bounds}
+-- A range as the code keeps it, and a place as the code answers it.
+use Rattle.std.specs.Prelude.{ℕ, List, Option, Some, None, ltb}
+use Rattle.arithmetic.specs.Choice.{when◌then◌else◌}
+use Rattle.ranges.specs.Fields.{Range, ◌to◌, ±◌, particulars, half_breadth, item, tank, row_ranges, hopper_width, inclining, shift, cross_curve, heights}
+use Rattle.ranges.specs.declared.bounds.Bounds.{Bounds}
+use Rattle.ranges.specs.declared.bounds.Bounds.TheVariants.{FromTo, EitherSide}
+use Rattle.ranges.specs.declared.bounds.Record.{Record}
+use Rattle.ranges.specs.declared.bounds.Record.TheVariants.{Particulars, HalfBreadth, Item, Tank, Row, HopperWidth, InclinedShip, Shift, CrossCurve, Heights}
 
-abbrev pub bounds_of : Range → Bounds
-bounds_of (a to b) = (a, b, false)
-bounds_of (± b) = (0, b, true)
+abbrev pub range_by : Bounds → Range
+range_by (FromTo a b) = a to b
+range_by (EitherSide b) = ± b
 
--- The ranges of a record by the least and the greatest number of each field, as the code hands them on.
-abbrev pub ranges_of : List ℕ → List ℕ → List Range
-ranges_of (a ∷ least) (b ∷ greatest) = a to b ∷ ranges_of least greatest
-ranges_of [] greatest = []
-ranges_of (a ∷ least) [] = []
+-- the ranges of a record's numbers
+abbrev pub section_of : Record → List Range
+section_of Particulars = particulars
+section_of HalfBreadth = half_breadth
+section_of Item = item
+section_of Tank = tank
+section_of Row = row_ranges
+section_of HopperWidth = hopper_width
+section_of InclinedShip = inclining
+section_of Shift = shift
+section_of CrossCurve = cross_curve
+section_of Heights = heights
+
+-- the place of a number among so many; of one after the last, none
+unfoldable pub place_in : ℕ → ℕ → Option ℕ
+place_in count place = when ltb place count then Some place else None
