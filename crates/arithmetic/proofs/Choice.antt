@@ -1,6 +1,6 @@
 -- Choices by tests.
 --     chosen         what a choice gives once its test is rewritten to its outcome: `simp (lt-ltb _ _ h, chosen)`
---     told           the same with the outcomes from facts: `search (told, needs)` closes each return of a function that goes by tests
+--     told           the same with the outcomes from facts: `search (told, rules)` closes each return of a function that goes by tests
 --     if_either      what holds both ways holds of the choice
 -- The tests' outcomes from facts are the kit's: `borrow.Author.Tests`. Assumes nothing.
 use mathlib.Core.Bool.{Bool, true, false}

@@ -1,27 +1,25 @@
 -- The crossing between a signed 64-bit number and a whole one. A signed local holds bits: every read of one shows as what is read back from its bits, `back v`.
 --     back, back_is                      what is read back is the number
 --     heard                              what a callee says of a number that it was handed
---     is_negative_is                     the machine's test for below 0 is `is_negative`
---     eq_ℤ_same, same_eq_ℤ                 `eq_ℤ` holds of one number and itself, and of no others
+--     eq_ℤ_same, same_eq_ℤ               `eq_ℤ` holds of one number and itself, and of no others
 --     same_bits                          two numbers are the same where their bits are
 --     cast_defined                       the cast of a number that is not below 0
 --     Turned, turn                       the steps from a negative number to its magnitude
 --     mag_le                             what 64 bits have to hold of a number is no more than its size
 --     nearest_fits, nearest_of_small     a nearest number is held by 64 bits; one that they hold is its own nearest
 --     nearest_back                       a callee's nearest number, read back
---     Lowered, lower                     the steps from a whole number to its negation
 --     less_under, less_over              a less b, by which of the two is smaller
 --     less_whole                         where that is not negative, b is not above a
 -- Assumes nothing.
-use Prim.Native.Nat.{ℕ, zero, suc, ◌+◌, ◌-◌, ◌^◌, ◌<◌, ◌≤◌, min}
+use Prim.Native.Nat.{ℕ, zero, suc, ◌+◌, ◌-◌, ◌^◌, ◌<◌, ◌≤◌}
 use mathlib.Core.Bool.{Bool, true, false}
 use mathlib.Core.Path.{◌≡◌, refl, sym, ap, subst, ◌∙◌}
 use native.Mathlib.Nat.{min-eq_left, min-le_right}
 use native.Mathlib.Omega.{arith}
 use borrow.Author.Tests.{eqb-true, eqb-false, eq-eqb, lt-ltb, le-ltb, ltb-true, ltb-false}
 use lib.Dec.{T, eqb, ltb}
-use lib.IntN.{ℤ, pos, negsuc, nat_abs, neg_ℤ, suc_ℤ, pred_ℤ, ◌+ℤ◌, ◌-ℤ◌, +ℤ_idl, +ℤ_one, -ℤ_one}
-use lib.Signed.{lt_z, non_neg, mag}
+use lib.IntN.{ℤ, pos, negsuc, nat_abs, neg_ℤ, suc_ℤ, ◌+ℤ◌, ◌-ℤ◌, +ℤ_idl, +ℤ_one}
+use lib.Signed.{non_neg, mag}
 use mir.Facts.{to_z-of_z, Fits-nat_abs}
 use mir.Syntax.{w64}
 use mir.Val.{Fits, SFits, to_z, of_z}
@@ -37,13 +35,6 @@ back_is f = to_z-of_z f
 -- what a callee says of what it read back, it says of the number
 pub heard : {X : Type 0} (f : ℤ → X) {v : ℤ} {r : X} → SFits w64 v → r ≡ f (back v) → r ≡ f v
 heard f h e = e ∙ ap f (back_is h)
-
-below_zero : (v : ℤ) → lt_z v (pos 0) ≡ is_negative v
-below_zero (pos n) = le-ltb n 0 (omega arith)
-below_zero (negsuc n) = refl
-
-pub is_negative_is : {v : ℤ} → SFits w64 v → lt_z (back v) (pos 0) ≡ is_negative v
-is_negative_is {v} f = ap (λ z. lt_z z (pos 0)) (back_is f) ∙ below_zero v
 
 -- ---- the same number
 pub eq_ℤ_same : (a b : ℤ) → eq_ℤ a b ≡ true → a ≡ b
@@ -137,30 +128,6 @@ nearest_of_small (negsuc n) h = ap negsuc (min-eq_left (omega arith))
 -- what a callee that answers a nearest number hands back is that number
 pub nearest_back : (v : ℤ) {r : ℤ} → r ≡ nearest v → back r ≡ nearest v
 nearest_back v e = ap back e ∙ back_is (nearest_fits v)
-
--- −n − 1, made by turning n and taking one off
-pub record Lowered (n : ℕ) (r : ℤ) : Type 0 where
-  pub turned_fits : SFits w64 (pos 0 -ℤ back r)
-  pub lowered_fits : SFits w64 (back (pos 0 -ℤ back r) -ℤ pos 1)
-  pub lowered_is : back (back (pos 0 -ℤ back r) -ℤ pos 1) ≡ nearest (negsuc n)
-
-one_down : (k : ℕ) → neg_ℤ (pos k) -ℤ pos 1 ≡ negsuc k
-one_down k = -ℤ_one (neg_ℤ (pos k)) ∙ dropped k
-  where
-    dropped : (k : ℕ) → pred_ℤ (neg_ℤ (pos k)) ≡ negsuc k
-    dropped zero = refl
-    dropped (suc k) = refl
-
-pub lower : (n : ℕ) {r : ℤ} → r ≡ nearest (pos n) → Lowered n r
-unfolding nearest
-lower n {r} e =
-    let k = min n (2 ^ 63 - 1) in
-    let small : k ≤ 2 ^ 63 - 1 = min-le_right n (2 ^ 63 - 1) in
-    let round : pos 0 -ℤ back r ≡ neg_ℤ (pos k) = ap (λ z. pos 0 -ℤ z) (nearest_back (pos n) e) ∙ +ℤ_idl (neg_ℤ (pos k)) in
-    let held : SFits w64 (pos 0 -ℤ back r) = rw round (negative_fits k (omega arith)) in
-    let down : back (pos 0 -ℤ back r) -ℤ pos 1 ≡ negsuc k = ap (λ z. z -ℤ pos 1) (back_is held ∙ round) ∙ one_down k in
-    let held₂ : SFits w64 (back (pos 0 -ℤ back r) -ℤ pos 1) = rw down (record { sfits = omega arith }) in
-    record { turned_fits = held; lowered_fits = held₂; lowered_is = back_is held₂ ∙ down }
 
 -- ---- a difference of two whole numbers, by which is smaller
 pub less_under : (a b : ℕ) → a < b → pos a -ℤ pos b ≡ neg_ℤ (pos (b - a))

@@ -4,78 +4,53 @@
 
 ghost use Rattle.std.specs.Prelude.{◌≡◌, pos, neg_ℤ, nat_abs, ◌-ℤ◌, get_or};
 ghost use Rattle.arithmetic.specs.Rounding.{rounded_up};
-ghost use Rattle.arithmetic.specs.Signed.{is_negative, eq_ℤ, nearest};
-
-// The largest i64.
-const LARGEST: u64 = 9_223_372_036_854_775_807;
+ghost use Rattle.arithmetic.specs.Signed.{is_negative, nearest};
 
 // The quotient a / b, rounded up; 0 where b is 0.
+#[tactic(auto, unfolding(crate::specs::Rounding::rounded_up))]
 pub fn rounded_up(a: u64, b: u64) -> u64
     ensures { result ≡ rounded_up a b }
 {
     if b == 0 {
         return 0;
     }
-    let quotient = a / b;
-    if a % b == 0 {
-        return quotient;
-    }
-    quotient + 1
+    a.div_ceil(b)
 }
 
 pub fn is_negative(v: i64) -> bool
     ensures { result ≡ is_negative v }
 {
-    v < 0
-}
-
-// Whether two are the same number.
-pub fn is_same(a: i64, b: i64) -> bool
-    ensures { result ≡ eq_ℤ a b }
-{
-    a == b
+    v.is_negative()
 }
 
 // How far v is from 0.
 pub fn magnitude(v: i64) -> u64
     ensures { result ≡ nat_abs v }
 {
-    if v < 0 {
-        // One is added first, since the least i64 has no negation.
-        let less_one = -(v + 1);
-        return less_one as u64 + 1;
-    }
-    v as u64
+    v.unsigned_abs()
 }
 
 // n as a signed number, or the largest where n is larger.
+#[tactic(auto, unfolding(crate::specs::Signed::nearest))]
 pub fn signed(n: u64) -> i64
     ensures { result ≡ nearest (pos n) }
 {
-    if LARGEST < n {
-        return LARGEST as i64;
-    }
-    n as i64
+    i64::try_from(n).unwrap_or(i64::MAX)
 }
 
 // n below 0, or the least signed number where that is not as low.
+#[tactic(auto, unfolding(crate::specs::Signed::nearest))]
 pub fn negated(n: u64) -> i64
     ensures { result ≡ nearest (neg_ℤ (pos n)) }
 {
-    if n == 0 {
-        return 0;
-    }
-    -signed(n - 1) - 1
+    0i64.saturating_sub_unsigned(n)
 }
 
 // How far apart two whole numbers are.
 pub fn apart(a: u64, b: u64) -> u64
     ensures { result ≡ nat_abs (pos a -ℤ pos b) }
 {
-    if a < b {
-        return b - a;
-    }
-    a - b
+    a.abs_diff(b)
 }
 
 // a less b, or the end of the signed numbers that is nearer.
@@ -92,10 +67,7 @@ pub fn difference(a: u64, b: u64) -> i64
 pub fn number_at(table: &[i64], i: usize) -> i64
     ensures { result ≡ get_or table.now i (pos 0) }
 {
-    if i < table.len() {
-        return table[i];
-    }
-    0
+    table.get(i).copied().unwrap_or(0)
 }
 
 // How far the number at place i of a table is from 0; 0 beyond its end.
