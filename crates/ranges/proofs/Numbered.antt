@@ -8,25 +8,27 @@
 --     numbered              all of these, for a definition of tests: `search numbered`, and `depth` by the count of tests
 -- Assumes nothing.
 use mathlib.Core.Path.{◌≡◌, refl, sym}
-use mathlib.Core.Bool.{Bool}
+use mathlib.Core.Bool.{Bool, true}
 use Prim.Native.Nat.{ℕ, ◌≤◌}
 use native.Mathlib.Omega.{arith}
 use lib.Dec.{lit≤}
 use Rattle.arithmetic.specs.Choice.{when◌then◌else◌}
 use Rattle.arithmetic.proofs.Choice.{if_either}
 use Rattle.ranges.specs.Outcome.{Outcome, answered, refused, and_then, answer_with, Numbered}
-use Rattle.ranges.specs.Refusals.{first_refusal, last_refusal}
+use Rattle.ranges.specs.Refusals.{first_refusal, last_refusal, is_given}
 use Rattle.ranges.proofs.Outcomes.{refused_not}
 
 pub answered_numbered : {A : Type 0} (a : A) → Numbered (answered a)
-answered_numbered a = record { of_the_paper = λ e. refused_not (sym e) }
+answered_numbered a = record { of_the_paper = λ e. refused_not (sym e); by_a_call = λ e. refused_not (sym e) }
 
-pub refused_numbered : {A : Type 0} {number place : ℕ} → first_refusal ≤ number → number ≤ last_refusal → Numbered {A = A} (refused number place)
-refused_numbered {number} first last =
-    record { of_the_paper = λ {number = n} e. let same : number ≡ n = cc in (omega arith, omega arith) }
+pub refused_numbered : {A : Type 0} {number place : ℕ} → first_refusal ≤ number → number ≤ last_refusal → is_given number ≡ true → Numbered {A = A} (refused number place)
+refused_numbered {number} first last given = record {
+  of_the_paper = λ {number = n} e. let same : number ≡ n = cc in (omega arith, omega arith);
+  by_a_call = λ {number = n} e. let same : number ≡ n = cc in rw same at given;
+}
 
 pub passed_on : {A B : Type 0} {number place : ℕ} → Numbered {A = A} (refused number place) → Numbered {A = B} (refused number place)
-passed_on h = let numbers = h.of_the_paper refl in refused_numbered numbers.0 numbers.1
+passed_on h = let numbers = h.of_the_paper refl in refused_numbered numbers.0 numbers.1 (h.by_a_call refl)
 
 -- ---- tests
 pub if_numbered : {A : Type 0} {a b : Outcome A} (t : Bool) → Numbered a → Numbered b → Numbered (when t then a else b)
@@ -43,4 +45,4 @@ unfolding answer_with
 with_numbered part (answered a) h = answered_numbered (part a)
 with_numbered part (refused number place) h = passed_on h
 
-pub ruleset numbered = (answered_numbered, refused_numbered, if_numbered, then_numbered, lit≤, tt)
+pub ruleset numbered = (answered_numbered, refused_numbered, if_numbered, then_numbered, lit≤, tt, refl)

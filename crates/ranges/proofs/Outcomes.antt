@@ -2,6 +2,7 @@
 --     refused_not                  no refusal is an answer; `sym` tells the other way round
 --     answer_same                  equal answers have one value
 --     reason_same, refusal_same    a reason is known from its number, and a refusal from its number and place
+--     reason_of                    each number that a call refuses with has its reason
 --     answer_known, paper_ok       a call's answer is known from what it says in the paper's words; an answer so
 --     not_refused, was_passed      before an answer a test gave no refusal, where it refuses when true and when false
 --     was_refused                  what is refused after a test whose other way answers was refused by the test
@@ -11,7 +12,10 @@
 --     then_assoc                   three steps, joined from either end
 -- Assumes nothing.
 use mathlib.Core.Path.{◌≡◌, refl, sym, ap, ap₂, ◌∙◌}
-use mathlib.Core.Bool.{Bool, true, false}
+use mathlib.Core.Bool.{Bool, true, false, ◌||◌}
+use borrow.Author.Tests.{eqb-true}
+use lib.Dec.{eqb}
+use Rattle.ranges.specs.Refusals.{is_given, file_too_long, not_anumber, count_not_allowed, out_of_range, ends_too_early, token_after_end, wrong_size, displacement_not_rising, metacentre_too_high, rows_not_usable, too_light, too_heavy, contents_above_capacity, room_too_short, no_such_slot, slot_taken, slot_empty, no_light_weight, light_moment_negative, tally_unsound}
 use mathlib.Core.List.{List, [], ◌∷◌}
 use Prim.Native.Nat.{ℕ}
 use native.Mathlib.Omega.{arith}
@@ -56,6 +60,53 @@ named_by SlotEmpty = refl
 named_by NoLightWeight = refl
 named_by LightMomentNegative = refl
 named_by TallyUnsound = refl
+
+-- and each number that a call refuses with has its reason
+either : {X : Type 0} (a b : Bool) → (a || b) ≡ true → (a ≡ true → X) → (b ≡ true → X) → X
+either true b e left right = left refl
+either false b e left right = right e
+
+pub reason_of : (number : ℕ) → is_given number ≡ true → (r : Reason) × (number_of r ≡ number)
+reason_of number given =
+    either _ (eqb number tally_unsound) given (λ rest.
+    either _ (eqb number light_moment_negative) rest (λ rest.
+    either _ (eqb number no_light_weight) rest (λ rest.
+    either _ (eqb number slot_empty) rest (λ rest.
+    either _ (eqb number slot_taken) rest (λ rest.
+    either _ (eqb number no_such_slot) rest (λ rest.
+    either _ (eqb number room_too_short) rest (λ rest.
+    either _ (eqb number contents_above_capacity) rest (λ rest.
+    either _ (eqb number too_heavy) rest (λ rest.
+    either _ (eqb number too_light) rest (λ rest.
+    either _ (eqb number rows_not_usable) rest (λ rest.
+    either _ (eqb number metacentre_too_high) rest (λ rest.
+    either _ (eqb number displacement_not_rising) rest (λ rest.
+    either _ (eqb number wrong_size) rest (λ rest.
+    either _ (eqb number token_after_end) rest (λ rest.
+    either _ (eqb number ends_too_early) rest (λ rest.
+    either _ (eqb number out_of_range) rest (λ rest.
+    either _ (eqb number count_not_allowed) rest (λ rest.
+    either _ (eqb number not_anumber) rest (λ rest.
+    (FileTooLong, sym (eqb-true number file_too_long rest)))
+    (λ is. (NotANumber, sym (eqb-true number not_anumber is))))
+    (λ is. (CountNotAllowed, sym (eqb-true number count_not_allowed is))))
+    (λ is. (OutOfRange, sym (eqb-true number out_of_range is))))
+    (λ is. (EndsTooEarly, sym (eqb-true number ends_too_early is))))
+    (λ is. (TokenAfterEnd, sym (eqb-true number token_after_end is))))
+    (λ is. (WrongSize, sym (eqb-true number wrong_size is))))
+    (λ is. (DisplacementNotRising, sym (eqb-true number displacement_not_rising is))))
+    (λ is. (MetacentreTooHigh, sym (eqb-true number metacentre_too_high is))))
+    (λ is. (RowsNotUsable, sym (eqb-true number rows_not_usable is))))
+    (λ is. (TooLight, sym (eqb-true number too_light is))))
+    (λ is. (TooHeavy, sym (eqb-true number too_heavy is))))
+    (λ is. (ContentsAboveCapacity, sym (eqb-true number contents_above_capacity is))))
+    (λ is. (RoomTooShort, sym (eqb-true number room_too_short is))))
+    (λ is. (NoSuchSlot, sym (eqb-true number no_such_slot is))))
+    (λ is. (SlotTaken, sym (eqb-true number slot_taken is))))
+    (λ is. (SlotEmpty, sym (eqb-true number slot_empty is))))
+    (λ is. (NoLightWeight, sym (eqb-true number no_light_weight is))))
+    (λ is. (LightMomentNegative, sym (eqb-true number light_moment_negative is))))
+    (λ is. (TallyUnsound, sym (eqb-true number tally_unsound is)))
 
 pub reason_same : {r s : Reason} → number_of r ≡ number_of s → r ≡ s
 reason_same {r} {s} e = sym (named_by r) ∙ ap named e ∙ named_by s

@@ -1,6 +1,6 @@
 -- What a call comes to. Every promise of this project says `paper answer ≡ outcomeOf inputs`, with an outcome on both sides.
-use Rattle.std.specs.Prelude.{ℕ, ◌≤◌, ◌≡◌, List, ◌++◌, length, drop}
-use Rattle.ranges.specs.Refusals.{first_refusal, last_refusal}
+use Rattle.std.specs.Prelude.{ℕ, true, ◌≤◌, ◌≡◌, List, ◌++◌, length, drop}
+use Rattle.ranges.specs.Refusals.{first_refusal, last_refusal, is_given}
 
 -- "Each returns number and place": the values of an answer, or a refusal's number and place.
 pub data Outcome (A : Type 0) : Type 0 where
@@ -30,3 +30,4 @@ left_with numbers (refused number place) was = was
 -- "Refusals by number": what is refused has one of the paper's numbers
 pub record Numbered {A : Type 0} (outcome : Outcome A) : Type 0 where
   pub of_the_paper : {number place : ℕ} → outcome ≡ refused number place → (first_refusal ≤ number) × (number ≤ last_refusal)
+  pub by_a_call : {number place : ℕ} → outcome ≡ refused number place → is_given number ≡ true

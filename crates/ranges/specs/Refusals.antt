@@ -1,5 +1,5 @@
 -- "Refusals by number", by name.
-use Rattle.std.specs.Prelude.{ℕ}
+use Rattle.std.specs.Prelude.{ℕ, Bool, ◌||◌, eqb}
 
 -- file over 32,768 bytes
 abbrev pub file_too_long : ℕ
@@ -87,6 +87,30 @@ first_refusal = file_too_long
 
 abbrev pub last_refusal : ℕ
 last_refusal = tally_unsound
+
+-- the numbers that calls refuse with: 18 and 19 belong to requests to come
+abbrev pub is_given : ℕ → Bool
+is_given number =
+    eqb number file_too_long
+    || eqb number not_anumber
+    || eqb number count_not_allowed
+    || eqb number out_of_range
+    || eqb number ends_too_early
+    || eqb number token_after_end
+    || eqb number wrong_size
+    || eqb number displacement_not_rising
+    || eqb number metacentre_too_high
+    || eqb number rows_not_usable
+    || eqb number too_light
+    || eqb number too_heavy
+    || eqb number contents_above_capacity
+    || eqb number room_too_short
+    || eqb number no_such_slot
+    || eqb number slot_taken
+    || eqb number slot_empty
+    || eqb number no_light_weight
+    || eqb number light_moment_negative
+    || eqb number tally_unsound
 
 -- "Place of 4: .. 0..4 particulars, 5+i half-breadths", "3,000+i" items, "4,000+i" tanks: where the places of each table begin
 abbrev pub place_of_half_breadths : ℕ

@@ -1,11 +1,12 @@
 // The loading condition.
 ghost use Rattle.std.specs.Prelude.{◌≡◌};
 ghost use Rattle.loading.specs.Condition.{condition_of, condition_by};
-ghost use Rattle.loading.specs.Promise.{paper};
-ghost use Rattle.rugulosca.specs.Told.{TellsCondition, lie, tangent_of, wholes_of};
+ghost use Rattle.ranges.specs.Reasons.{paper};
+ghost use Rattle.rugulosca.specs.Told.{TellsCondition, lie, wholes_of};
 
-use crate::ANSWERED;
-use loading::{Answer, Condition, Heel, Reading};
+use crate::telling::tell;
+use loading::{Condition, Heel, Reading};
+use ranges::Refusal;
 
 // How many numbers of a condition have no sign, and how many have one.
 pub const WHOLE_COUNT: usize = 8;
@@ -24,23 +25,10 @@ fn lie(heel: Heel) -> u64
     }
 }
 
-// The tangent where the vessel is heeled, and else what stood there.
-fn tangent_of(heel: Heel, was: f64) -> f64
-    ensures { result ≡ tangent_of heel was }
-{
-    match heel {
-        Heel::Unstable => was,
-        Heel::Upright => was,
-        Heel::Heeled(tangent) => tangent,
-        Heel::Beyond => was,
-    }
-}
-
 // A condition's numbers without a sign.
 fn wholes_of(c: Condition) -> [u64; WHOLE_COUNT]
     ensures { result ≡ wholes_of c }
 {
-    let heel = c.heel;
     [
         c.weight,
         c.draft,
@@ -48,14 +36,14 @@ fn wholes_of(c: Condition) -> [u64; WHOLE_COUNT]
         c.lcg,
         c.vertical_moment,
         c.free_surface,
-        lie(heel),
-        c.passes as u64,
+        lie(c.heel),
+        u64::from(c.passes),
     ]
 }
 
-// Leaves a condition, or the refusal's place.
-pub(crate) fn tell(
-    answer: Answer,
+// Leaves a condition, with the tangent only where the vessel is heeled, or the refusal's place.
+pub(crate) fn tell_condition(
+    answer: Result<Condition, Refusal>,
     wholes: &mut [u64; WHOLE_COUNT],
     signed_numbers: &mut [i64; SIGNED_COUNT],
     tangent: &mut f64,
@@ -63,19 +51,13 @@ pub(crate) fn tell(
 ) -> u64
     ensures { TellsCondition (paper answer) wholes.old wholes.new signed_numbers.old signed_numbers.new tangent.old tangent.new place.old place.new result }
 {
-    match answer {
-        Answer::Laden(c) => {
-            let heel = c.heel;
-            *wholes = wholes_of(c);
-            *signed_numbers = [c.gm, c.transverse_moment];
-            *tangent = tangent_of(heel, *tangent);
-            ANSWERED
-        }
-        Answer::Refused(refusal) => {
-            *place = refusal.place;
-            refusal.number
+    if let Ok(c) = answer {
+        *signed_numbers = [c.gm, c.transverse_moment];
+        if let Heel::Heeled(angle) = c.heel {
+            *tangent = angle;
         }
     }
+    tell(answer.map(wholes_of), wholes, place)
 }
 
 // The condition of items and tanks over the rows of a hull, with the lesser KM between two rows.
@@ -91,7 +73,7 @@ pub fn rugulosca_condition(
     ensures { TellsCondition (condition_of items.now tanks.now rows.now) wholes.old wholes.new signed_numbers.old signed_numbers.new tangent.old tangent.new place.old place.new result }
 {
     let answer = loading::condition_of(items, tanks, rows);
-    tell(answer, wholes, signed_numbers, tangent, place)
+    tell_condition(answer, wholes, signed_numbers, tangent, place)
 }
 
 // The same with KM on the straight line between two rows.
@@ -107,5 +89,5 @@ pub fn rugulosca_condition_straight_line(
     ensures { TellsCondition (condition_by Reading.StraightLine items.now tanks.now rows.now) wholes.old wholes.new signed_numbers.old signed_numbers.new tangent.old tangent.new place.old place.new result }
 {
     let answer = loading::condition_by(Reading::StraightLine, items, tanks, rows);
-    tell(answer, wholes, signed_numbers, tangent, place)
+    tell_condition(answer, wholes, signed_numbers, tangent, place)
 }

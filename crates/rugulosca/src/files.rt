@@ -5,14 +5,28 @@ ghost use Rattle.offsets.specs.Reader.{ReadInto, reader_of, summarised};
 ghost use Rattle.writer.specs.Writer.{writer_of, length_of, room_after};
 ghost use Rattle.rugulosca.specs.Told.{Tells, summary_numbers};
 
-use crate::ANSWERED;
-use crate::hulls::particulars_of;
-use offsets::Read;
-use ranges::PARTICULAR_COUNT;
-use writer::Written;
+use crate::telling::tell;
+use offsets::Summary;
+use ranges::{PARTICULAR_COUNT, Particulars};
 
 // The particulars, and the counts of items and of tanks.
 pub const SUMMARY_COUNT: usize = PARTICULAR_COUNT + 2;
+
+// A summary's numbers.
+fn numbers_of(s: Summary) -> [u64; SUMMARY_COUNT]
+    ensures { result ≡ summary_numbers s }
+{
+    let p = s.particulars;
+    [
+        p.n as u64,
+        p.m as u64,
+        p.s,
+        p.d,
+        p.density,
+        s.items as u64,
+        s.tanks as u64,
+    ]
+}
 
 // Reads a file into the lent tables: its five particulars and its counts of items and of tanks.
 pub fn rugulosca_read(
@@ -26,25 +40,8 @@ pub fn rugulosca_read(
     ensures tells { Tells summary_numbers (summarised (reader_of text.now (length half_breadths.old) (length items.old) (length tanks.old))) summary.old summary.new place.old place.new result }
     ensures read_into { ReadInto (reader_of text.now (length half_breadths.old) (length items.old) (length tanks.old)) half_breadths.old half_breadths.new items.old items.new tanks.old tanks.new }
 {
-    match offsets::read_file(text, half_breadths, items, tanks) {
-        Read::Sheet(s) => {
-            let p = s.particulars;
-            *summary = [
-                p.n as u64,
-                p.m as u64,
-                p.s,
-                p.d,
-                p.density,
-                s.items as u64,
-                s.tanks as u64,
-            ];
-            ANSWERED
-        }
-        Read::Refused(refusal) => {
-            *place = refusal.place;
-            refusal.number
-        }
-    }
+    let answer = offsets::read_file(text, half_breadths, items, tanks);
+    tell(answer.map(numbers_of), summary, place)
 }
 
 // Writes a file into the lent room, and how many bytes it takes.
@@ -60,20 +57,7 @@ pub fn rugulosca_write(
     ensures tells { Tells (λ n. n) (length_of (writer_of (particulars_of (map pos particulars.now)) half_breadths.now items.now tanks.now (length room.old))) count.old count.new place.old place.new result }
     ensures room_after { room.new ≡ room_after (writer_of (particulars_of (map pos particulars.now)) half_breadths.now items.now tanks.now (length room.old)) room.old }
 {
-    match writer::write_file(
-        particulars_of(particulars),
-        half_breadths,
-        items,
-        tanks,
-        room,
-    ) {
-        Written::Wrote(bytes) => {
-            *count = bytes;
-            ANSWERED
-        }
-        Written::Refused(refusal) => {
-            *place = refusal.place;
-            refusal.number
-        }
-    }
+    let p = Particulars::from(*particulars);
+    let answer = writer::write_file(p, half_breadths, items, tanks, room);
+    tell(answer, count, place)
 }

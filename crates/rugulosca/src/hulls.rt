@@ -1,44 +1,15 @@
 // The rows of a hull, and one row for display.
 ghost use Rattle.std.specs.Prelude.{◌≡◌, map, pos, length};
 ghost use Rattle.hydrostatics.specs.Display.{display_of};
-ghost use Rattle.hydrostatics.specs.Promise.{paper, count_of, table_after};
+ghost use Rattle.hydrostatics.specs.Promise.{count_of, table_after};
 ghost use Rattle.hydrostatics.specs.Rows.{rows_of};
 ghost use Rattle.hydrostatics.specs.Usable.{row_in};
 ghost use Rattle.ranges.specs.Outside.{particulars_of};
 ghost use Rattle.rugulosca.specs.Told.{Tells, figure_numbers};
 
-use crate::ANSWERED;
-use hydrostatics::{Display, ROW_WIDTH, Row, Rows};
+use crate::telling::tell;
+use hydrostatics::{Figures, ROW_WIDTH, Row};
 use ranges::{PARTICULAR_COUNT, Particulars};
-
-// Five numbers as a hull's particulars.
-pub(crate) fn particulars_of(five: &[u64; PARTICULAR_COUNT]) -> Particulars
-    ensures { result ≡ particulars_of (map pos five.now) }
-{
-    Particulars {
-        n: five[0] as usize,
-        m: five[1] as usize,
-        s: five[2],
-        d: five[3],
-        density: five[4],
-    }
-}
-
-// Leaves how many rows there are, or the refusal's place.
-fn tell(answer: Rows, count: &mut usize, place: &mut usize) -> u64
-    ensures { Tells (λ n. n) (paper answer) count.old count.new place.old place.new result }
-{
-    match answer {
-        Rows::Made(made) => {
-            *count = made;
-            ANSWERED
-        }
-        Rows::Refused(refusal) => {
-            *place = refusal.place;
-            refusal.number
-        }
-    }
-}
 
 // The rows of a hull, and how many there are.
 pub fn rugulosca_rows(
@@ -51,7 +22,7 @@ pub fn rugulosca_rows(
     ensures tells { Tells (λ n. n) (count_of (rows_of half_breadths.now (particulars_of (map pos particulars.now)) (length rows.old))) count.old count.new place.old place.new result }
     ensures rows_after { rows.new ≡ table_after (rows_of half_breadths.now (particulars_of (map pos particulars.now)) (length rows.old)) rows.old }
 {
-    let answer = hydrostatics::make_rows(half_breadths, particulars_of(particulars), rows);
+    let answer = hydrostatics::make_rows(half_breadths, Particulars::from(*particulars), rows);
     tell(answer, count, place)
 }
 
@@ -68,7 +39,7 @@ pub fn rugulosca_rows_by_sections(
 {
     let answer = hydrostatics::make_rows_by_sections(
         half_breadths,
-        particulars_of(particulars),
+        Particulars::from(*particulars),
         rows,
     );
     tell(answer, count, place)
@@ -89,6 +60,13 @@ fn row_of(seven: &[u64; ROW_WIDTH]) -> Row
     }
 }
 
+// A displayed row's figures.
+fn numbers_of(f: Figures) -> [f64; ROW_WIDTH]
+    ensures { result ≡ figure_numbers f }
+{
+    [f.draft, f.displacement, f.lcb, f.kb, f.bm, f.km, f.area]
+}
+
 // One row in metres, tonnes and square metres.
 pub fn rugulosca_display(
     row: &[u64; ROW_WIDTH],
@@ -97,14 +75,6 @@ pub fn rugulosca_display(
 ) -> u64
     ensures { Tells figure_numbers (display_of (row_in row.now 0)) figures.old figures.new place.old place.new result }
 {
-    match hydrostatics::display_row(row_of(row)) {
-        Display::Shown(f) => {
-            *figures = [f.draft, f.displacement, f.lcb, f.kb, f.bm, f.km, f.area];
-            ANSWERED
-        }
-        Display::Refused(refusal) => {
-            *place = refusal.place;
-            refusal.number
-        }
-    }
+    let answer = hydrostatics::display_row(row_of(row));
+    tell(answer.map(numbers_of), figures, place)
 }

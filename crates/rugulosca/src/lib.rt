@@ -10,6 +10,4 @@ pub mod profiles;
 pub mod sheets;
 pub mod surfaces;
 pub mod tallies;
-
-// What a call returns that is not refused.
-const ANSWERED: u64 = 0;
+mod telling;

@@ -4,8 +4,8 @@ ghost use Rattle.levers.specs.Promise.{profile_of, levers_after};
 ghost use Rattle.ranges.specs.Outcome.{value_after};
 ghost use Rattle.rugulosca.specs.Told.{Tells, met, profile_wholes, profile_signed};
 
-use crate::ANSWERED;
-use levers::{ANGLES, Answer, Profile, Rule};
+use crate::telling::tell;
+use levers::{ANGLES, Profile, Rule};
 
 // The peak's angle and the five rules; GM, GZ at 30 degrees and the two sums.
 pub const WHOLE_COUNT: usize = 6;
@@ -27,18 +27,25 @@ fn wholes_of(profile: Profile) -> [u64; WHOLE_COUNT]
     ensures { result ≡ profile_wholes profile }
 {
     let rules = profile.rules;
-    let peak = rules.peak;
-    let area_to_t = rules.area_to_t;
-    let area_from_30_to_40 = rules.area_from_30_to_40;
-    let gz_at_30 = rules.gz_at_30;
-    let gm = rules.gm;
     [
         profile.peak_angle,
-        met(peak),
-        met(area_to_t),
-        met(area_from_30_to_40),
-        met(gz_at_30),
-        met(gm),
+        met(rules.peak),
+        met(rules.area_to_t),
+        met(rules.area_from_30_to_40),
+        met(rules.gz_at_30),
+        met(rules.gm),
+    ]
+}
+
+// And those with one.
+fn signed_of(profile: Profile) -> [i64; SIGNED_COUNT]
+    ensures { result ≡ profile_signed profile }
+{
+    [
+        profile.gm,
+        profile.gz_at_30,
+        profile.sum_to_t,
+        profile.sum_from_30_to_40,
     ]
 }
 
@@ -56,20 +63,9 @@ pub fn rugulosca_supply_profile(
     ensures signed_numbers_after { signed_numbers.new ≡ value_after profile_signed (profile_of kn.now km kg) signed_numbers.old }
     ensures gz_after { gz.new ≡ levers_after kn.now kg (profile_of kn.now km kg) gz.old }
 {
-    match levers::profile_of(kn, km, kg, gz) {
-        Answer::Found(profile) => {
-            *wholes = wholes_of(profile);
-            *signed_numbers = [
-                profile.gm,
-                profile.gz_at_30,
-                profile.sum_to_t,
-                profile.sum_from_30_to_40,
-            ];
-            ANSWERED
-        }
-        Answer::Refused(refusal) => {
-            *place = refusal.place;
-            refusal.number
-        }
+    let answer = levers::profile_of(kn, km, kg, gz);
+    if let Ok(profile) = answer {
+        *signed_numbers = signed_of(profile);
     }
+    tell(answer.map(wholes_of), wholes, place)
 }

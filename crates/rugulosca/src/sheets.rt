@@ -1,29 +1,12 @@
 // The sheet.
 ghost use Rattle.std.specs.Prelude.{◌≡◌, length};
 ghost use Rattle.arithmetic.specs.Room.{laid};
-ghost use Rattle.report.specs.Promise.{paper, report_of, report_by};
+ghost use Rattle.report.specs.Promise.{report_of, report_by};
 ghost use Rattle.report.specs.Sheet.{sheet_of, sheet_by};
 ghost use Rattle.rugulosca.specs.Told.{Tells};
 
-use crate::ANSWERED;
+use crate::telling::tell;
 use loading::Reading;
-use report::Report;
-
-// Leaves how many bytes the lines take, or the refusal's place.
-fn tell(answer: Report, count: &mut usize, place: &mut usize) -> u64
-    ensures { Tells (λ n. n) (paper answer) count.old count.new place.old place.new result }
-{
-    match answer {
-        Report::Lines(bytes) => {
-            *count = bytes;
-            ANSWERED
-        }
-        Report::Refused(refusal) => {
-            *place = refusal.place;
-            refusal.number
-        }
-    }
-}
 
 // From a file's text to the sheet's lines, and how many bytes they take, with the lesser KM between two rows.
 pub fn rugulosca_report(text: &[u8], room: &mut [u8], count: &mut usize, place: &mut usize) -> u64

@@ -2,11 +2,18 @@
 ghost use Rattle.hoppers.specs.Hopper.{surface_of};
 ghost use Rattle.rugulosca.specs.Told.{Tells, surface_numbers};
 
-use crate::ANSWERED;
-use hoppers::Answer;
+use crate::telling::tell;
+use hoppers::FreeSurface;
 
 // The inertia and the moment.
 pub const SURFACE_COUNT: usize = 2;
+
+// A surface's numbers.
+fn numbers_of(surface: FreeSurface) -> [u64; SURFACE_COUNT]
+    ensures { result ≡ surface_numbers surface }
+{
+    [surface.inertia, surface.moment]
+}
 
 // The free surface of widths to port and to starboard, an interval apart, of a liquid.
 pub fn rugulosca_hopper_surface(
@@ -19,14 +26,6 @@ pub fn rugulosca_hopper_surface(
 ) -> u64
     ensures { Tells surface_numbers (surface_of port.now starboard.now interval density) surface.old surface.new place.old place.new result }
 {
-    match hoppers::surface_of(port, starboard, interval, density) {
-        Answer::Found(found) => {
-            *surface = [found.inertia, found.moment];
-            ANSWERED
-        }
-        Answer::Refused(refusal) => {
-            *place = refusal.place;
-            refusal.number
-        }
-    }
+    let answer = hoppers::surface_of(port, starboard, interval, density);
+    tell(answer.map(numbers_of), surface, place)
 }

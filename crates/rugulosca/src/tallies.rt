@@ -2,16 +2,15 @@
 ghost use Rattle.std.specs.Prelude.{◌≡◌, ◌≤◌, pos};
 ghost use Rattle.rugulosca.specs.Panel.{keeping, slots_from, tally_from, numbers_of, kept_of, item_from, place_from};
 ghost use Rattle.rugulosca.specs.Private.Places.{slot_in, slot_room};
-ghost use Rattle.report.specs.Lines.{mark};
 ghost use Rattle.rugulosca.specs.Told.{Tells, TellsCondition};
 ghost use Rattle.tally.specs.Condition.{condition_aboard};
 ghost use Rattle.tally.specs.Steps.{paper, loads, discharges, shifts};
 
-use crate::ANSWERED;
-use crate::conditions::{SIGNED_COUNT, WHOLE_COUNT, tell};
+use crate::conditions::{SIGNED_COUNT, WHOLE_COUNT, tell_condition};
+use crate::telling::tell;
 use loading::Totals;
 use ranges::ITEM_WIDTH;
-use tally::{Answer, Item, Place, SLOTS, Slot, Stepped, Tally};
+use tally::{Item, Place, SLOTS, Slot, Stepped, Tally};
 
 // How many numbers a slot has, whether it is filled and its item's, and how many all slots have.
 const SLOT_WIDTH: usize = 1 + ITEM_WIDTH;
@@ -46,11 +45,8 @@ fn slots_from(numbers: [i64; SLOT_ROOM]) -> [Slot; SLOTS]
 {
     let none = tally::empty();
     let mut slots = none.slots;
-    let mut i = 0;
-    while i < SLOTS {
-        let slot = slot_in(&numbers, SLOT_WIDTH * i);
-        slots[i] = slot;
-        i += 1;
+    for i in 0..SLOTS {
+        slots[i] = slot_in(&numbers, SLOT_WIDTH * i);
     }
     slots
 }
@@ -94,37 +90,19 @@ fn place_from(three: &[i64; PLACE_WIDTH]) -> Place
     }
 }
 
-// 1 where a slot is filled.
-fn mark(filled: bool) -> i64
-    ensures { result ≡ pos (mark filled) }
-{
-    if filled {
-        return 1;
-    }
-    0
-}
-
 // The numbers of all slots.
 fn numbers_of(slots: [Slot; SLOTS]) -> [i64; SLOT_ROOM]
     ensures { result ≡ numbers_of slots }
 {
     let mut numbers = [0i64; SLOT_ROOM];
-    let mut i = 0;
-    while i < SLOTS {
-        let slot = slots[i];
-        let item = slot.item;
-        let filled = mark(slot.filled);
-        let kg = item.kg;
-        let x = item.x;
-        let y = item.y;
-        let z = item.z;
+    for (i, slot) in slots.iter().enumerate() {
         let at = SLOT_WIDTH * i;
-        numbers[at] = filled;
-        numbers[at + 1] = kg;
-        numbers[at + 2] = x;
-        numbers[at + 3] = y;
-        numbers[at + 4] = z;
-        i += 1;
+        let item = slot.item;
+        numbers[at] = i64::from(slot.filled);
+        numbers[at + 1] = item.kg;
+        numbers[at + 2] = item.x;
+        numbers[at + 3] = item.y;
+        numbers[at + 4] = item.z;
     }
     numbers
 }
@@ -139,23 +117,17 @@ fn tell_step(
 ) -> u64
     ensures { Tells kept_of (paper stepped) (keeping slots.old totals.old transverse.old) (keeping slots.new totals.new transverse.new) place.old place.new result }
 {
-    let after = stepped.tally;
-    let answer = stepped.answer;
-    match answer {
-        Answer::Done => {
-            let held = after.slots;
-            let sums = after.totals;
-            let moment = sums.transverse;
-            *slots = numbers_of(held);
-            *totals = [sums.weight, sums.longitudinal, sums.vertical];
-            *transverse = moment;
-            ANSWERED
-        }
-        Answer::Refused(refusal) => {
-            *place = refusal.place;
-            refusal.number
-        }
+    if let Ok(()) = stepped.answer {
+        let totals_after = stepped.tally.totals;
+        *slots = numbers_of(stepped.tally.slots);
+        *totals = [
+            totals_after.weight,
+            totals_after.longitudinal,
+            totals_after.vertical,
+        ];
+        *transverse = totals_after.transverse;
     }
+    tell(stepped.answer, &mut (), place)
 }
 
 // Loads an item into an empty slot.
@@ -221,5 +193,5 @@ pub fn rugulosca_condition_aboard(
 {
     let aboard = tally_from(*slots, *totals, transverse);
     let answer = tally::condition_of(aboard, tanks, rows);
-    tell(answer, wholes, signed_numbers, tangent, place)
+    tell_condition(answer, wholes, signed_numbers, tangent, place)
 }
