@@ -1,23 +1,26 @@
 -- What keeps a promise, made from the outcome that the promise names.
---     Told, told               the answer with given values, or with a given refusal, by the two cases that every answer has
+--     Told, told               an answer that says an outcome whose refusals have the paper's numbers
 --     two_same, four_same      what is handed back is known from its parts
 -- Assumes nothing.
-use mathlib.Core.Path.{◌≡◌, ap₂}
-use Rattle.ranges.specs.Outcome.{Outcome, answered, refused}
-use Rattle.ranges.specs.declared.Refusal.{Refusal}
+use mathlib.Core.Path.{◌≡◌, refl, ap, ap₂}
+use Rattle.std.specs.Prelude.{Ok, Err}
+use Rattle.ranges.specs.Outcome.{Outcome, answered, refused, Numbered}
+use Rattle.ranges.specs.Reasons.{paper}
+use Rattle.ranges.proofs.Outcomes.{reason_of}
+use Rattle.demands.specs.Answering.{Answer}
 
 -- ---- answers
--- an answer that has the paper's number and values of an outcome
-pub record Told {Answer Values : Type 0} (paper : Answer → Outcome Values) (outcome : Outcome Values) : Type 0 where
-  pub answer : Answer
+-- an answer that says an outcome
+pub record Told {Values : Type 0} (outcome : Outcome Values) : Type 0 where
+  pub answer : Answer Values
   pub is : paper answer ≡ outcome
 
-module _ {Answer Values : Type 0} (paper : Answer → Outcome Values) (given : Values → Answer) (declined : Refusal → Answer) where
-  pub told : ((v : Values) → paper (given v) ≡ answered v) → ((r : Refusal) → paper (declined r) ≡ refused r.number r.place) → (o : Outcome Values) → Told paper o
-  told values refusals (answered v) = record { answer = given v; is = values v }
-  told values refusals (refused number place) =
-      let r : Refusal = record { number = number; place = place } in
-      record { answer = declined r; is = refusals r }
+-- of values, and of a refusal whose number has a reason
+pub told : {Values : Type 0} (o : Outcome Values) → Numbered o → Told o
+told (answered v) h = record { answer = Ok v; is = refl }
+told (refused number place) h =
+    let why = reason_of number (h.by_a_call refl) in
+    record { answer = Err (record { reason = why.0; place = place }); is = ap (λ n. refused n place) why.1 }
 
 -- ---- parts
 pub two_same : {A B : Type 0} (one other : A × B) → (one.0 ≡ other.0) × (one.1 ≡ other.1) → one ≡ other

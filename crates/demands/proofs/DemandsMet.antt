@@ -5,7 +5,9 @@ use mathlib.Core.Path.{◌≡◌, refl, sym, ap, subst₂, ◌∙◌}
 use mathlib.Core.List.{List}
 use Prim.Native.Nat.{ℕ}
 use lib.IntN.{ℤ, pos}
+use Rattle.std.specs.Prelude.{Ok}
 use Rattle.ranges.specs.Outcome.{value_after}
+use Rattle.ranges.proofs.Outcomes.{answer_known}
 use Rattle.simpson.proofs.Front.{curve_two, curve_three, curve_off}
 use Rattle.simpson.proofs.Moments.{curve_exact, answer_exact}
 use Rattle.writer.proofs.Calls.{write_then_read}
@@ -20,8 +22,6 @@ use Rattle.hydrostatics.proofs.MadeRows.{made_rows, made_area}
 use Rattle.hydrostatics.proofs.Unique.{makes_rows_unique}
 use Rattle.loading.specs.Beside.{Alike, NotAbove}
 use Rattle.loading.specs.Demand.{LoweredTables, NoWorse}
-use Rattle.loading.specs.declared.Answer.{Answer}
-use Rattle.loading.specs.declared.Answer.TheVariants.{Laden}
 use Rattle.loading.specs.declared.Condition.{Condition}
 use Rattle.loading.specs.declared.Reading.{Reading}
 use Rattle.loading.proofs.Answers.{answer_says}
@@ -29,11 +29,11 @@ use Rattle.loading.proofs.Beside.{readings_beside}
 use Rattle.loading.proofs.ByRow.{own_weight_stands, read_between}
 use Rattle.loading.proofs.Demand3 as Third
 use Rattle.loading.proofs.Demand3.{ConditionOver}
-use Rattle.loading.proofs.Unique.{paper_injective}
 use Rattle.tally.specs.History.{taken}
 use Rattle.tally.proofs.Histories.{totals_after, answers_alike, always_sound, usable_at_once, condition_after, stepped_on}
 use Rattle.rugulosca.specs.Told.{place_after}
 use Rattle.rugulosca.proofs.Apart.{apart}
+use Rattle.demands.specs.Answering.{Answer}
 use Rattle.demands.specs.Conditioned.{Conditioned, IsCondition}
 use Rattle.demands.specs.Demands.{Demand1, Demand2, Demand3, Demands}
 use Rattle.demands.specs.HopperTanks.{HopperTanks}
@@ -84,11 +84,11 @@ demand_2 = record {
   what_is_written_is_read_back = write_then_read;
 }
 
-lowering : {reading : Reading} {items' tanks' items tanks : List ℤ} {rows : List ℕ} {c : Condition} {answer : Answer}
-    → IsCondition reading items tanks rows c → LoweredTables items' tanks' items tanks → Conditioned reading items' tanks' rows answer → (d : Condition) × (answer ≡ Laden d) × NoWorse d c
+lowering : {reading : Reading} {items' tanks' items tanks : List ℤ} {rows : List ℕ} {c : Condition} {answer : Answer Condition}
+    → IsCondition reading items tanks rows c → LoweredTables items' tanks' items tanks → Conditioned reading items' tanks' rows answer → (d : Condition) × (answer ≡ Ok d) × NoWorse d c
 lowering {reading} {rows = rows} {answer = answer} k low again =
     let lowered = Third.lowering_never_costs_the_answer reading rows (sym k.answer_is) low in
-    (lowered.0, paper_injective answer (Laden lowered.0) (again.answer_is ∙ lowered.1), lowered.2)
+    (lowered.0, answer_known answer (Ok lowered.0) (again.answer_is ∙ lowered.1), lowered.2)
 
 demand_3 : Demand3
 unfolding over

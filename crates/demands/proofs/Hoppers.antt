@@ -2,34 +2,35 @@
 --     in_order                "7 at 0 .., then 4 in order of p, q, h and density"
 --     beside_condition        a rectangle as widths, beside the condition's
 -- Assumes nothing.
-use mathlib.Core.Path.{◌≡◌, refl}
+use mathlib.Core.Path.{◌≡◌, refl, ap}
 use mathlib.Core.Bool.{true}
 use mathlib.Core.List.{List}
 use Prim.Native.Nat.{ℕ, ◌+◌, ◌*◌, ◌^◌, ◌≤◌}
 use lib.ListN.{length, replicate}
+use Rattle.std.specs.Prelude.{Ok}
 use Rattle.arithmetic.specs.Rounding.{rounded_up}
 use Rattle.arithmetic.proofs.Choice.{chosen}
+use Rattle.ranges.specs.Reasons.{paper}
 use Rattle.hoppers.specs.Hopper.{MakesSurface}
-use Rattle.hoppers.specs.declared.Answer.{Answer}
-use Rattle.hoppers.specs.declared.Answer.TheVariants.{Found}
 use Rattle.hoppers.specs.declared.FreeSurface.{FreeSurface}
 use Rattle.hoppers.proofs.Answered.{beside_answered}
 use Rattle.hoppers.proofs.Order.{size_refused, port_refused, starboard_refused, interval_refused, density_refused, else_found}
 use Rattle.loading.specs.Load.{Tank}
 use Rattle.loading.specs.Paper.{slack, rectangle_parts, rectangle}
 use Rattle.loading.specs.Rules.{surface_of}
+use Rattle.demands.specs.Answering.{Answer}
 use Rattle.demands.specs.HopperTanks.{Counted, InOrder}
 
 counts : {port starboard : List ℕ} → Counted port starboard → (length port ≡ length starboard) × (3 ≤ length port) × (length port ≤ 11)
 counts c = (c.as_many, c.enough, c.not_too_many)
 
-pub in_order : {port starboard : List ℕ} {h density : ℕ} {answer : Answer} (made : MakesSurface port starboard h density answer) → InOrder made
+pub in_order : {port starboard : List ℕ} {h density : ℕ} {answer : Answer FreeSurface} (made : MakesSurface port starboard h density answer) → InOrder made
 in_order made = record {
-  seven_at_0 = λ wrong. size_refused made (λ c. wrong (record { as_many = c.0; enough = c.1; not_too_many = c.2 }));
-  port_first = λ c i f. port_refused made (counts c) i f.there f.above f.none_before;
-  then_starboard = λ c p i f. starboard_refused made (counts c) p i f.there f.above f.none_before;
-  then_interval = λ c p q. interval_refused made (counts c) p q;
-  then_density = λ c p q h. density_refused made (counts c) p q h;
+  seven_at_0 = λ wrong. ap paper (size_refused made (λ c. wrong (record { as_many = c.0; enough = c.1; not_too_many = c.2 })));
+  port_first = λ c i f. ap paper (port_refused made (counts c) i f.there f.above f.none_before);
+  then_starboard = λ c p i f. ap paper (starboard_refused made (counts c) p i f.there f.above f.none_before);
+  then_interval = λ c p q. ap paper (interval_refused made (counts c) p q);
+  then_density = λ c p q h. ap paper (density_refused made (counts c) p q h);
   else_found = λ c p q h. else_found made (counts c) p q h;
 }
 
@@ -38,7 +39,7 @@ slack_surface : (t : Tank) (l b density : ℕ) → slack t ≡ true → t.length
 unfolding rectangle_parts
 slack_surface t l b density is-slack e f g = rw (is-slack, e, f, g) (simp chosen refl)
 
-pub beside_condition : (n p q : ℕ) {h density : ℕ} {s : FreeSurface} → MakesSurface (replicate (n + 1) p) (replicate (n + 1) q) h density (Found s)
+pub beside_condition : (n p q : ℕ) {h density : ℕ} {s : FreeSurface} → MakesSurface (replicate (n + 1) p) (replicate (n + 1) q) h density (Ok s)
     → (t : Tank) → slack t ≡ true → t.length ≡ n * h → t.breadth ≡ p + q → t.density ≡ density
     → (surface_of rectangle t ≤ s.moment) × (s.moment ≤ surface_of rectangle t + 1)
 beside_condition n p q {h} {density} made t is-slack e f g =

@@ -13,6 +13,7 @@ use lib.IntN.{ℤ, pos, ◌+ℤ◌, ◌-ℤ◌, ◌*ℤ◌}
 use lib.ListN.{length, get_or, drop, length-append, length-drop, length-map, get_or-append}
 use lib.Seq.{drop_at}
 use lib.Signed.{◌≤ℤ◌}
+use Rattle.std.specs.Prelude.{Ok, Err}
 use Rattle.arithmetic.specs.Rounding.{rounded_up}
 use Rattle.arithmetic.proofs.Crossing.{less_over}
 use Rattle.arithmetic.proofs.Rounding.{RoundedDown}
@@ -20,7 +21,8 @@ use Rattle.arithmetic.proofs.Tests.{by_test}
 use Rattle.ranges.specs.Fields.{Range, shift}
 use Rattle.ranges.specs.Outside.{first_outside}
 use Rattle.ranges.specs.Sizes.{whole_records}
-use Rattle.ranges.specs.declared.Refusal.{Refusal}
+use Rattle.ranges.specs.Reasons.{paper}
+use Rattle.ranges.specs.declared.refusal.Refusal.{Refusal}
 use Rattle.ranges.proofs.Facts.{all_inside, whole_within, records_are}
 use Rattle.ranges.proofs.Outcomes.{with_refused, left_refused}
 use Rattle.ranges.proofs.Outside.{outside_first}
@@ -29,8 +31,6 @@ use Rattle.inclining.specs.Inclining.{shifts_fit, items_fit, MakesLightShip}
 use Rattle.inclining.specs.Light.{vertical_moment_of, unrounded_moment, light_weight, light_moment}
 use Rattle.inclining.specs.Measured.{shifts_of, unrounded_gm, gm_measured, own_gms}
 use Rattle.inclining.specs.Private.Heeling.{shift_at, TestInRange, ShiftsInRange}
-use Rattle.inclining.specs.declared.Answer.{Answer}
-use Rattle.inclining.specs.declared.Answer.TheVariants.{Found, Refused}
 use Rattle.inclining.specs.declared.LightShip.{LightShip}
 use Rattle.inclining.specs.declared.Test.{Test}
 use Rattle.inclining.proofs.Answered.{Told, found_told}
@@ -42,6 +42,7 @@ use Rattle.inclining.proofs.Shifts.{own_length, own_at, gm_one}
 use Rattle.inclining.proofs.Sized.{Sized, shifts_by, shifts_told}
 use Rattle.inclining.proofs.Surface.{less_surface}
 use Rattle.inclining.proofs.Trying.{Inside, test_in_range, shifts_in_range}
+use Rattle.demands.specs.Answering.{Answer}
 use Rattle.demands.specs.IncliningTest.{SomeShifts, FewItems, Sizes, AllIn, FirstOut, InRange, kg_of, kgmm_of, shifted, deflected, measured, RefusedInOrder, IncliningTest}
 
 -- ---- the words of the request as the tests of the call
@@ -85,26 +86,26 @@ is_measured : (test : Test) (shifts : List ℕ) → measured test shifts ≡ gm_
 unfolding gm_measured unrounded_gm
 is_measured test shifts = refl
 
-in_order : {test : Test} {shifts : List ℕ} {off on : List ℤ} {gms after : List ℕ} {answer : Answer} (made : MakesLightShip test shifts off on gms after answer) → RefusedInOrder made
+in_order : {test : Test} {shifts : List ℕ} {off on : List ℤ} {gms after : List ℕ} {answer : Answer LightShip} (made : MakesLightShip test shifts off on gms after answer) → RefusedInOrder made
 in_order {test} {shifts} made = record {
-  seven_at_0 = λ none. shifts_refused made (no_shifts none);
-  seven_at_1 = λ s none. off_refused made (some_shifts s) (not_few none);
-  seven_at_2 = λ s f none. on_refused made (some_shifts s) (few_items f) (not_few none);
-  seven_at_3 = λ s f n short. room_refused made (some_shifts s) (few_items f) (few_items n) (omega (arith, s.whole));
-  four_in_the_test = λ z i out. test_number made (sized z) i (first_out out) out.there;
-  four_in_the_shifts = λ z t i out. shift_number made (sized z) (none_out t) i (first_out out) (omega (arith, out.there, length-map shifts pos));
-  four_to_take_off = λ z t s i out. off_number made (sized z) (none_out t) (none_shifted shifts s) i (first_out out) out.there;
-  four_to_put_on = λ z t s f i out. on_number made (sized z) (none_out t) (none_shifted shifts s) (none_out f) i (first_out out) out.there;
-  then_twenty = λ z so none. weight_refused made (sized z) (inside so) none;
-  then_twenty_one = λ z so some below. moment_refused made (sized z) (inside so) some (rw (is_measured test shifts) at below);
+  seven_at_0 = λ none. ap paper (shifts_refused made (no_shifts none));
+  seven_at_1 = λ s none. ap paper (off_refused made (some_shifts s) (not_few none));
+  seven_at_2 = λ s f none. ap paper (on_refused made (some_shifts s) (few_items f) (not_few none));
+  seven_at_3 = λ s f n short. ap paper (room_refused made (some_shifts s) (few_items f) (few_items n) (omega (arith, s.whole)));
+  four_in_the_test = λ z i out. ap paper (test_number made (sized z) i (first_out out) out.there);
+  four_in_the_shifts = λ z t i out. ap paper (shift_number made (sized z) (none_out t) i (first_out out) (omega (arith, out.there, length-map shifts pos)));
+  four_to_take_off = λ z t s i out. ap paper (off_number made (sized z) (none_out t) (none_shifted shifts s) i (first_out out) out.there);
+  four_to_put_on = λ z t s f i out. ap paper (on_number made (sized z) (none_out t) (none_shifted shifts s) (none_out f) i (first_out out) out.there);
+  then_twenty = λ z so none. ap paper (weight_refused made (sized z) (inside so) none);
+  then_twenty_one = λ z so some below. ap paper (moment_refused made (sized z) (inside so) some (rw (is_measured test shifts) at below));
   else_found = λ z so some above. else_found made (sized z) (inside so) some (rw (is_measured test shifts) at above);
 }
 
 -- ---- the table of GMs, after a refusal and after an answer
-refused_left : {test : Test} {shifts : List ℕ} {off on : List ℤ} {gms after : List ℕ} {r : Refusal} → MakesLightShip test shifts off on gms after (Refused r) → after ≡ gms
+refused_left : {test : Test} {shifts : List ℕ} {off on : List ℤ} {gms after : List ℕ} {r : Refusal} → MakesLightShip test shifts off on gms after (Err r) → after ≡ gms
 refused_left {gms} made = made.left ∙ left_refused (λ i. i.gms) _ gms (with_refused (λ i. i.light) _ (sym made.answer_is))
 
-module _ {test : Test} {shifts : List ℕ} {off on : List ℤ} {gms after : List ℕ} {ship : LightShip} (made : MakesLightShip test shifts off on gms after (Found ship)) where
+module _ {test : Test} {shifts : List ℕ} {off on : List ℤ} {gms after : List ℕ} {ship : LightShip} (made : MakesLightShip test shifts off on gms after (Ok ship)) where
   told : Told test shifts off on (length gms) ship
   told = (found_told test shifts off on made).0
 

@@ -21,8 +21,7 @@ use Rattle.offsets.specs.Back.{RoomForAnyFile}
 use Rattle.offsets.specs.File.{file}
 use Rattle.offsets.specs.Reader.{Reads}
 use Rattle.offsets.specs.Tokens.{tokens}
-use Rattle.offsets.specs.declared.Read.{Read}
-use Rattle.offsets.specs.declared.Read.TheVariants.{Refused}
+use Rattle.offsets.specs.declared.Summary.{Summary}
 use Rattle.offsets.proofs.Answers.{past_sizes, refusal, text_too_long}
 use Rattle.offsets.proofs.WasRead.{reads_contents}
 use Rattle.offsets.proofs.Longer.{read_still}
@@ -34,6 +33,7 @@ use Rattle.writer.proofs.Unique.{writes_unique}
 use Rattle.hydrostatics.proofs.Answers.{bad_particular_said, refuses}
 use Rattle.hydrostatics.proofs.Longer.{made_still}
 use Rattle.hydrostatics.proofs.Unique.{makes_rows_unique}
+use Rattle.demands.specs.Answering.{Answer, RefusedWith}
 use Rattle.demands.specs.LongerTables.{FiveInRange, NowhereLonger, LongerTables}
 
 longer : {short : Limits} → NowhereLonger short → Longer short limits
@@ -76,8 +76,8 @@ module _ (p : Particulars) where
     at_spacing h = bad_length limits p (omega (arith, all_five five)) (long_is h)
 
 -- what a file of allowed length is refused for, the reader answers
-file_refuses : {text h₀ h' : List ℕ} {i₀ i' t₀ t' : List ℤ} {answer : Read} {why place : ℕ} → RoomForAnyFile h₀ i₀ t₀ → length text ≤ 32_768 → file (length text) (tokens text) ≡ refused why place → Reads text h₀ h' i₀ i' t₀ t' answer
-    → answer ≡ Refused (record { number = why; place = place })
+file_refuses : {text h₀ h' : List ℕ} {i₀ i' t₀ t' : List ℤ} {answer : Answer Summary} {why place : ℕ} → RoomForAnyFile h₀ i₀ t₀ → length text ≤ 32_768 → file (length text) (tokens text) ≡ refused why place → Reads text h₀ h' i₀ i' t₀ t' answer
+    → RefusedWith why place answer
 file_refuses {text} {h₀} {i₀ = i₀} {t₀ = t₀} rooms short said reads =
     let opened = past_sizes text (length h₀) (length i₀) (length t₀) rooms.half_breadth_room rooms.item_room rooms.tank_room short in
     (reads_unique reads (refusal text h₀ i₀ t₀ _ _ (opened ∙ said))).0

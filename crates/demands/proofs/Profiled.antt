@@ -8,13 +8,13 @@ use native.Mathlib.Omega.{arith}
 use lib.IntN.{ℤ, pos, ◌-ℤ◌, ◌*ℤ◌}
 use lib.ListN.{length, get_or}
 use Rattle.arithmetic.specs.Rounding.{rounded_up}
+use Rattle.std.specs.Prelude.{Ok}
+use Rattle.ranges.specs.Reasons.{paper}
 use Rattle.simpson.specs.Curve.{curve_ℤ}
 use Rattle.simpson.proofs.Curves.{curve_ℤ_same}
 use Rattle.levers.specs.Levers.{lever, GZ, peak, Q, t}
 use Rattle.levers.specs.Promise.{MakesProfile}
 use Rattle.levers.specs.Sines.{sine, degrees}
-use Rattle.levers.specs.declared.Answer.{Answer}
-use Rattle.levers.specs.declared.Answer.TheVariants.{Found}
 use Rattle.levers.specs.declared.Profile.{Profile}
 use Rattle.levers.proofs.Answered.{Told, found_told, refused_left}
 use Rattle.levers.proofs.Comparing.{reaches}
@@ -25,19 +25,20 @@ use Rattle.levers.proofs.Order.{size_refused, kn_refused, km_refused, kg_refused
 use Rattle.levers.proofs.Peak.{peak_within, peak_first, held_below, held_beyond, held_itself}
 use Rattle.levers.proofs.Sines.{sines_are_right}
 use Rattle.levers.proofs.Tabled.{levers_length, lever_at, product_at}
+use Rattle.demands.specs.Answering.{Answer}
 use Rattle.demands.specs.SupplyVessels.{ProfileInOrder, FirstGreatest, IsT, Asks, SupplyVessels}
 
-in_order : {kn : List ℕ} {km kg : ℕ} {gz after : List ℤ} {answer : Answer} (made : MakesProfile kn km kg gz after answer) → ProfileInOrder made
+in_order : {kn : List ℕ} {km kg : ℕ} {gz after : List ℤ} {answer : Answer Profile} (made : MakesProfile kn km kg gz after answer) → ProfileInOrder made
 in_order made = record {
-  seven_at_0 = size_refused made;
-  four_by_angle = λ size i f. kn_refused made size i f.there f.above f.none_before;
-  four_at_km = λ size in_table. km_refused made size in_table;
-  four_at_kg = λ size in_table low. kg_refused made size in_table low;
+  seven_at_0 = λ size. ap paper (size_refused made size);
+  four_by_angle = λ size i f. ap paper (kn_refused made size i f.there f.above f.none_before);
+  four_at_km = λ size in_table high. ap paper (km_refused made size in_table high);
+  four_at_kg = λ size in_table low high. ap paper (kg_refused made size in_table low high);
   else_found = λ size in_table low. else_found made size in_table low;
 }
 
 -- ---- an answered profile
-module _ {kn : List ℕ} {km kg : ℕ} {gz after : List ℤ} {p : Profile} (made : MakesProfile kn km kg gz after (Found p)) where
+module _ {kn : List ℕ} {km kg : ℕ} {gz after : List ℤ} {p : Profile} (made : MakesProfile kn km kg gz after (Ok p)) where
   abbrev told : Told kn km kg after p
   told = found_told made
 

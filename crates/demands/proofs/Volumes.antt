@@ -24,7 +24,7 @@ use Rattle.hydrostatics.specs.Promise.{MakesRows}
 use Rattle.hydrostatics.specs.Row.{row_from}
 use Rattle.hydrostatics.specs.Rows.{displacement_before, rows_up_to, rows_by}
 use Rattle.hydrostatics.specs.Usable.{row_in}
-use Rattle.hydrostatics.specs.declared.Rows.TheVariants.{Made}
+use Rattle.std.specs.Prelude.{Ok}
 use Rattle.hydrostatics.proofs.ByFormula.{S_exact, Sx_exact, Sz_exact, made_displacement, made_lcb, made_kb}
 use Rattle.demands.specs.ExactVolumes.{power, ExactSums, ExactRow, ExactVolumes}
 use Rattle.demands.proofs.MissedHulls.{given_at, given_test, given_told, four_missed}
@@ -52,7 +52,7 @@ abbrev two : Particulars
 two = record { n = 2; m = 3; s = 2_500; d = 500; density = 1_000 }
 
 -- of y = iᵃ·jᵇ: the sums of the first row's waterline, and the last row
-sums_and_row : (a b : ℕ) (table rows : List ℕ) → given_test (power a b) 2 3 (half_breadth table two) ≡ true → MakesRows table two rows rows (Made 2)
+sums_and_row : (a b : ℕ) (table rows : List ℕ) → given_test (power a b) 2 3 (half_breadth table two) ≡ true → MakesRows table two rows rows (Ok 2)
     → ExactSums table two (power a b) 2 × ExactRow two (power a b) 3 (row_in rows 1)
 sums_and_row a b table rows e made =
     let given = given_told (power a b) 2 3 (half_breadth table two) e in (

@@ -1,6 +1,16 @@
 -- What demand 1 asks of one call at one input.
-use Rattle.std.specs.Prelude.{◌≡◌, ℕ}
+use Rattle.std.specs.Prelude.{◌≡◌, ℕ, Result}
 use Rattle.ranges.specs.Outcome.{Outcome, refused, Numbered}
+use Rattle.ranges.specs.Reasons.{paper}
+use Rattle.ranges.specs.declared.refusal.Refusal.{Refusal}
+
+-- what a call answers: values, or a refusal
+abbrev pub Answer : Type 0 → Type 0
+Answer Values = Result Values Refusal
+
+-- an answer that is the refusal of a number at a place
+abbrev pub RefusedWith : {Values : Type 0} → ℕ → ℕ → Answer Values → Type 0
+RefusedWith number place answer = paper answer ≡ refused number place
 
 -- `Keeps`: the promise, of what a call hands back: its answer, and the tables that were lent to it for writing as it leaves them.
 -- `outcome`: the answer's values, or the number and place of its refusal. `Untouched`: these tables hold what they held before.

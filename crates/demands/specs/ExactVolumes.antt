@@ -1,5 +1,5 @@
 -- What change request 13 asks of hulls given by formula, sentence by sentence. `volume`, `longitudinal_moment_of` and `vertical_moment_of` are 576 times the integrals of y, y·i and y·j.
-use Rattle.std.specs.Prelude.{◌&&◌, ◌≡◌, List, ℕ, ◌+◌, ◌*◌, ◌/◌, ◌^◌, ◌≤◌, ◌<◌, eqb, ℤ, pos, length}
+use Rattle.std.specs.Prelude.{◌&&◌, ◌≡◌, List, ℕ, ◌+◌, ◌*◌, ◌/◌, ◌^◌, ◌≤◌, ◌<◌, eqb, ℤ, pos, length, Ok}
 use Rattle.arithmetic.specs.Choice.{when◌then◌else◌}
 use Rattle.ranges.specs.Outcome.{answered}
 use Rattle.ranges.specs.declared.Particulars.{Particulars}
@@ -10,7 +10,6 @@ use Rattle.hydrostatics.specs.Row.{waterline_of}
 use Rattle.hydrostatics.specs.Rows.{rows_of}
 use Rattle.hydrostatics.specs.Usable.{row_in}
 use Rattle.hydrostatics.specs.declared.Row.{Row}
-use Rattle.hydrostatics.specs.declared.Rows.TheVariants.{Made}
 
 -- "When half-breadths are a polynomial of at most third degree in station and in waterline number, with whole coefficients, S is 576 times the exact double integral over every row;
 -- and .. Sx and Sz are 576 times theirs when the degree in that direction is at most two": the row of waterline k
@@ -53,7 +52,7 @@ pub record ExactVolumes : Type 0 where
   pub sums_are_exact : (half_breadths : List ℕ) (p : Particulars) (f : Formula) (k : ℕ) → 2 ≤ p.n → 2 ≤ k → GivenBy f p.n k (half_breadth half_breadths p)
       → ExactSums half_breadths p f k
   -- "such a hull, answered": of any row that the call made
-  pub rows_are_exact : {half_breadths : List ℕ} {p : Particulars} {rows after : List ℕ} {count : ℕ} → MakesRows half_breadths p rows after (Made count)
+  pub rows_are_exact : {half_breadths : List ℕ} {p : Particulars} {rows after : List ℕ} {count : ℕ} → MakesRows half_breadths p rows after (Ok count)
       → (r : ℕ) → r < count → (f : Formula) → GivenBy f p.n (waterline_of r) (half_breadth half_breadths p)
       → ExactRow p f (waterline_of r) (row_in after r)
   -- "And that fourth degree fails": in either direction, and for the moments the third in theirs

@@ -5,7 +5,7 @@ use Rattle.ranges.specs.declared.Particulars.{Particulars}
 use Rattle.simpson.specs.Curve.{curve}
 use Rattle.hydrostatics.specs.Hull.{half_breadth, S, Sz, Sx}
 use Rattle.hydrostatics.specs.Promise.{MakesRows}
-use Rattle.hydrostatics.specs.declared.Rows.{Rows}
+use Rattle.demands.specs.Answering.{Answer}
 
 -- the area of station i up to waterline k, and its height moment, as sums over the station's own curve
 abbrev pub station_area : List ℕ → Particulars → ℕ → ℕ → ℕ
@@ -26,5 +26,5 @@ pub record SecondCalculation : Type 0 where
       → (curve 2 y ≡ 8 * y 0 + 32 * y 1 + 8 * y 2) × (curve 3 y ≡ 9 * y 0 + 27 * y 1 + 27 * y 2 + 9 * y 3)
   -- "Its seven numbers and its refusals equal the first calculation's for every hull." Both calls make this one promise; said of the calls themselves:
   -- `engines_agree` of hydrostatics, proofs/Engines.
-  pub engines_agree : {half_breadths : List ℕ} {p : Particulars} {rows after after' : List ℕ} {answer answer' : Rows} → MakesRows half_breadths p rows after answer → MakesRows half_breadths p rows after' answer'
+  pub engines_agree : {half_breadths : List ℕ} {p : Particulars} {rows after after' : List ℕ} {answer answer' : Answer ℕ} → MakesRows half_breadths p rows after answer → MakesRows half_breadths p rows after' answer'
       → (answer ≡ answer') × (after ≡ after')

@@ -1,13 +1,12 @@
 -- What change request 4 asks of the readings of KM, sentence by sentence. That demand 3 holds by either: `Demand3`, whose conditions have one reading.
 use Rattle.std.specs.Prelude.{◌≡◌, List, ℕ, ◌+◌, ◌-◌, ◌/◌, ◌<◌, min, ℤ, length}
+use Rattle.ranges.specs.Reasons.{paper}
 use Rattle.ranges.specs.Sizes.{row_width}
 use Rattle.hydrostatics.specs.Usable.{row_in}
 use Rattle.loading.specs.Beside.{Alike, NotAbove}
 use Rattle.loading.specs.Condition.{condition_by}
 use Rattle.loading.specs.Paper.{default_reading}
-use Rattle.loading.specs.Promise.{paper}
 use Rattle.loading.specs.Table.{line}
-use Rattle.loading.specs.declared.Answer.{Answer}
 use Rattle.loading.specs.declared.Condition.{Condition}
 use Rattle.loading.specs.declared.Reading.{Reading}
 use Rattle.loading.specs.declared.Reading.TheVariants.{Lesser, StraightLine}
@@ -15,6 +14,7 @@ use Rattle.tally.specs.Condition.{condition_aboard}
 use Rattle.tally.specs.History.{Step, items_on, tally_after, list_after}
 use Rattle.tally.specs.Tally.{table_of}
 use Rattle.report.specs.Sheet.{sheet_of, sheet_by}
+use Rattle.demands.specs.Answering.{Answer}
 use Rattle.demands.specs.Conditioned.{Conditioned, IsCondition}
 
 -- W lies strictly between rows r and r + 1
@@ -39,5 +39,5 @@ pub record TwoReadings : Type 0 where
   pub tally_takes_the_default : (history : List Step) (tanks : List ℤ) (rows : List ℕ) → condition_aboard (tally_after history) tanks rows ≡ condition_by Lesser (table_of (items_on (list_after history))) tanks rows
   -- with the same load and rows GM by the lesser is never above GM by the straight line, what passes by the lesser passes by the straight line,
   -- and both are answered or both refused alike
-  pub lesser_is_never_above : {items tanks : List ℤ} {rows : List ℕ} {a b : Answer} → Conditioned Lesser items tanks rows a → Conditioned StraightLine items tanks rows b
+  pub lesser_is_never_above : {items tanks : List ℤ} {rows : List ℕ} {a b : Answer Condition} → Conditioned Lesser items tanks rows a → Conditioned StraightLine items tanks rows b
       → Alike NotAbove (paper a) (paper b)
