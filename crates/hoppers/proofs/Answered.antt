@@ -14,6 +14,7 @@ use native.Mathlib.Omega.{arith}
 use borrow.Author.Tests.{not-false, ltb-false}
 use lib.IntN.{nat_abs}
 use lib.ListN.{length, replicate, length-map, length-replicate}
+use Rattle.std.specs.Prelude.{Ok}
 use Rattle.arithmetic.specs.Rounding.{rounded_up}
 use Rattle.arithmetic.proofs.Rounding.{up_by_none, up_zero, up_of}
 use Rattle.ranges.specs.Fields.{range_of, least, most}
@@ -21,7 +22,6 @@ use Rattle.ranges.specs.Refusals.{out_of_range, wrong_size}
 use Rattle.ranges.proofs.Outcomes.{answer_same, not_refused}
 use Rattle.hoppers.specs.Hopper.{width_count, counts_fit, count, outside, found, surface_of, MakesSurface}
 use Rattle.hoppers.specs.Surface.{moment_unit, A, numerator, inertia, moment}
-use Rattle.hoppers.specs.declared.Answer.TheVariants.{Found}
 use Rattle.hoppers.specs.declared.FreeSurface.{FreeSurface}
 use Rattle.hoppers.proofs.Inertia.{inertia_is}
 use Rattle.hoppers.proofs.Rectangle.{rectangle_inertia, rectangle_beside}
@@ -36,7 +36,7 @@ pub record Told (port starboard : List ℕ) (h density : ℕ) (s : FreeSurface) 
   pub inertia_is : s.inertia ≡ inertia port starboard h
   pub moment_is : s.moment ≡ moment port starboard h density
 
-pub found_told : {port starboard : List ℕ} {h density : ℕ} {s : FreeSurface} → MakesSurface port starboard h density (Found s) → Told port starboard h density s
+pub found_told : {port starboard : List ℕ} {h density : ℕ} {s : FreeSurface} → MakesSurface port starboard h density (Ok s) → Told port starboard h density s
 unfolding surface_of
 found_told {port} {starboard} {h} {density} e =
     let first = not_refused wrong_size 0 (sym e.answer_is) in
@@ -56,8 +56,8 @@ found_told {port} {starboard} {h} {density} e =
 
 pub shifted_alike :
     {port starboard port' starboard' : List ℕ} {h density : ℕ} {s s' : FreeSurface} (k : ℕ)
-    → MakesSurface port starboard h density (Found s)
-    → MakesSurface port' starboard' h density (Found s')
+    → MakesSurface port starboard h density (Ok s)
+    → MakesSurface port' starboard' h density (Ok s')
     → port' ≡ map (λ p. p + k) port
     → starboard ≡ map (λ q. q + k) starboard'
     → (s'.inertia ≡ s.inertia) × (s'.moment ≡ s.moment)
@@ -70,7 +70,7 @@ shifted_alike {port} {starboard'} {h} {density} k before after to_port to_starbo
       a.moment_is ∙ moment_shifted k port starboard' as_many some to_port to_starboard h density ∙ sym b.moment_is,
     )
 
-module _ (n p q : ℕ) {h density : ℕ} {s : FreeSurface} (made : MakesSurface (replicate (n + 1) p) (replicate (n + 1) q) h density (Found s)) where
+module _ (n p q : ℕ) {h density : ℕ} {s : FreeSurface} (made : MakesSurface (replicate (n + 1) p) (replicate (n + 1) q) h density (Ok s)) where
   enough : 2 ≤ n
   enough = omega (arith, (found_told made).enough, length-replicate (n + 1) p)
 
@@ -82,7 +82,7 @@ module _ (n p q : ℕ) {h density : ℕ} {s : FreeSurface} (made : MakesSurface 
       let t = found_told made in
       rw t.moment_is (rectangle_beside n enough p q h density t.interval_most t.density_most)
 
-module _ {port starboard : List ℕ} {h density : ℕ} {s : FreeSurface} (made : MakesSurface port starboard h density (Found s)) where
+module _ {port starboard : List ℕ} {h density : ℕ} {s : FreeSurface} (made : MakesSurface port starboard h density (Ok s)) where
   pub by_formula : (s.inertia ≡ rounded_up (nat_abs (numerator port starboard)) (288 * A port starboard) * h) × (s.moment ≡ rounded_up (s.inertia * density) moment_unit)
   unfolding moment
   by_formula =

@@ -1,18 +1,19 @@
 -- The tests, in the paper's order.
---     counts_equal, counts_differ, counts_told                  the counts of widths
+--     counts_told                                               the counts of widths
 --     port_outside, starboard_outside, interval_outside, density_outside, none_outside      where the first number out of range stands
+--     place_told                                                the place as the code answers it
 --     inside                                                    what it tells that none is
 --     refused_size, refused_range, surface_found                the three outcomes
 --     made_found                                                the surface, from an inertia and a moment that were made
 --     tried                                                     what was tried where the surface is found
 -- Assumes nothing.
 use mathlib.Core.Path.{◌≡◌, sym, ap, ap₂, ◌∙◌}
-use mathlib.Core.Bool.{Bool, true, false, ◌&&◌}
+use mathlib.Core.Bool.{true, false}
 use mathlib.Core.List.{List, [], ◌∷◌, map}
 use Prim.Native.Nat.{ℕ, ◌+◌, ◌*◌, ◌≤◌, ◌<◌}
 use native.Mathlib.Nat.{add_assoc, add-zero}
 use native.Mathlib.Omega.{arith}
-use borrow.Author.Tests.{eq-eqb, ne_eqb, eqb-true, lt-ltb, le-ltb}
+use borrow.Author.Tests.{eqb-true, lt-ltb, le-ltb}
 use lib.Dec.{eqb}
 use lib.IntN.{pos}
 use lib.ListN.{length, length-map}
@@ -24,21 +25,15 @@ use Rattle.ranges.specs.Outcome.{answered, refused}
 use Rattle.ranges.specs.Outside.{outside_from, first_outside, outside_then}
 use Rattle.ranges.specs.Refusals.{out_of_range, wrong_size}
 use Rattle.ranges.proofs.Facts.{all_within, within_whole, wholes_in_range}
-use Rattle.ranges.proofs.Outside.{then_within, then_after, then_inside}
+use Rattle.ranges.proofs.Outside.{then_within, then_after, then_inside, place_some}
+use Rattle.ranges.specs.Private.Bounds.{place_in}
+use Rattle.std.specs.Prelude.{Some}
 use Rattle.hoppers.specs.Hopper.{width_count, counts_fit, count, outside, found, surface_of}
 use Rattle.hoppers.specs.Private.Side.{SurfaceInRange}
 use Rattle.hoppers.specs.Surface.{moment_unit, inertia, moment}
 
 -- ---- the counts
 module _ (port starboard : ℕ) where
-  pub counts_equal : {r : Bool} → r ≡ within width_count (pos port) → port ≡ starboard → r ≡ counts_fit port starboard
-  unfolding counts_fit
-  counts_equal e same = e ∙ sym (ap (λ t. t && within width_count (pos port)) (eq-eqb port starboard same))
-
-  pub counts_differ : (port ≡ starboard → ⊥) → false ≡ counts_fit port starboard
-  unfolding counts_fit
-  counts_differ other = sym (ap (λ t. t && within width_count (pos port)) (ne_eqb port starboard other))
-
   pub counts_told : counts_fit port starboard ≡ true → (port ≡ starboard) × (least width_count ≤ port) × (port ≤ most width_count)
   unfolding counts_fit
   counts_told e =
@@ -96,6 +91,10 @@ module _ (port starboard : List ℕ) (h density : ℕ) where
 
           pub none_outside : within (range_of 17) (pos density) ≡ true → length port + length starboard + 2 ≡ outside port starboard h density
           none_outside u = sym (widths_done ∙ ap (λ k. length port + length starboard + k) (none_of_two (range_of 26) liquid_density h density t u))
+
+  -- the place as the code answers it
+  pub place_told : {place : ℕ} → place ≡ outside port starboard h density → place < count port starboard h density → Some place ≡ place_in (count port starboard h density) (outside port starboard h density)
+  place_told e l = ap Some e ∙ sym (place_some (omega (arith, e)))
 
   -- none is outside
   pub inside : count port starboard h density ≤ outside port starboard h density → (length port ≤ first_outside hopper_width (map pos port)) × (length starboard ≤ first_outside hopper_width (map pos starboard)) × (2 ≤ two)

@@ -1,13 +1,13 @@
 -- What the call that makes a hopper tank's free surface comes to: "7 at 0 for unequal tables or a wrong count, then 4 in order of p, q, h and density, place the position from 0".
-use Rattle.std.specs.Prelude.{ℕ, ◌+◌, ◌≡◌, Bool, not, ◌&&◌, List, [], ◌∷◌, map, eqb, ltb, pos, length}
+use Rattle.std.specs.Prelude.{ℕ, ◌+◌, ◌≡◌, Bool, not, ◌&&◌, List, [], ◌∷◌, map, eqb, ltb, pos, length, Result}
 use Rattle.arithmetic.specs.Choice.{when◌then◌else◌}
 use Rattle.ranges.specs.Fields.{Range, ◌to◌, within, least, most, liquid_density, hopper_width, hopper_interval}
 use Rattle.ranges.specs.Outcome.{Outcome, answered, refused}
 use Rattle.ranges.specs.Outside.{first_outside, outside_then}
+use Rattle.ranges.specs.Reasons.{paper}
 use Rattle.ranges.specs.Refusals.{out_of_range, wrong_size}
+use Rattle.ranges.specs.declared.refusal.Refusal.{Refusal}
 use Rattle.hoppers.specs.Surface.{inertia, moment}
-use Rattle.hoppers.specs.declared.Answer.{Answer}
-use Rattle.hoppers.specs.declared.Answer.TheVariants.{Found, Refused}
 use Rattle.hoppers.specs.declared.FreeSurface.{FreeSurface}
 
 -- "2 to 10 equal intervals", and the widths to a side: one more
@@ -41,10 +41,5 @@ module _ (port starboard : List ℕ) (h density : ℕ) where
       else when ltb outside count then refused out_of_range outside
       else answered found
 
--- the paper's number and values for each answer
-abbrev pub paper : Answer → Outcome FreeSurface
-paper (Found surface) = answered surface
-paper (Refused r) = refused r.number r.place
-
-pub record MakesSurface (port starboard : List ℕ) (h density : ℕ) (answer : Answer) : Type 0 where
+pub record MakesSurface (port starboard : List ℕ) (h density : ℕ) (answer : Result FreeSurface Refusal) : Type 0 where
   pub answer_is : paper answer ≡ surface_of port starboard h density

@@ -2,23 +2,18 @@
 #![tactic(auto)]
 
 ghost use Rattle.std.specs.Prelude.{◌≡◌};
-ghost use Rattle.hoppers.specs.Hopper.{counts_fit, outside, MakesSurface};
+ghost use Rattle.hoppers.specs.Hopper.{counts_fit, count, outside, MakesSurface};
 ghost use Rattle.hoppers.specs.Private.Side.{SideInRange, SurfaceInRange, side_of};
 ghost use Rattle.hoppers.specs.Surface.{inertia};
+ghost use Rattle.ranges.specs.Private.Bounds.{place_in};
 
-use ranges::Refusal;
+use ranges::{Bounds, Number, Reason, Record, Refusal};
 
 // About the surface's own centre: its inertia in mm⁴, and the moment that its liquid makes, in kg·mm.
-#[derive(Clone, Copy)]
+#[derive(Clone, Copy, Debug, PartialEq, Eq)]
 pub struct FreeSurface {
     pub inertia: u64,
     pub moment: u64,
-}
-
-#[derive(Clone, Copy)]
-pub enum Answer {
-    Found(FreeSurface),
-    Refused(Refusal),
 }
 
 // The sums over the widths to one side, over their squares and over their cubes.
@@ -29,47 +24,39 @@ struct Side {
     cubes: u64,
 }
 
-// The fewest and the most intervals; there is one width more to a side.
-const FEWEST_INTERVALS: u64 = 2;
-
-const MOST_INTERVALS: u64 = 10;
+// How many widths there may be to a side: one more than 2 to 10 intervals.
+const WIDTHS: Bounds = Bounds::FromTo(3, 11);
 
 // So many mm⁴ · kg/m³ are one kg·mm.
 const MOMENT_UNIT: u64 = 1_000_000_000;
 
-// How many numbers follow the widths: the interval and the liquid's density.
-const AFTER_WIDTHS: usize = 2;
-
 // Whether there are as many widths to port as to starboard, and as many as there may be.
+#[tactic(auto, unfolding(crate::specs::Hopper::counts_fit))]
 fn counts_fit(port: usize, starboard: usize) -> bool
     ensures { result ≡ counts_fit port starboard }
 {
-    if port == starboard {
-        return ranges::is_between(port as u64, FEWEST_INTERVALS + 1, MOST_INTERVALS + 1);
-    }
-    false
+    port == starboard && (port as u64).is_within(WIDTHS)
 }
 
-// The position of the first number out of its range: of the widths to port, those to starboard, the interval, the density; or their count.
-fn outside_of(port: &[u64], starboard: &[u64], interval: u64, density: u64) -> usize
-    ensures { result ≡ outside port.now starboard.now interval density }
+// The position of the first number out of its range: of the widths to port, those to starboard, the interval, the density.
+// The four stay parameters: in a struct of lent tables each clause would read `self.entry.port.now` for `port.now`.
+fn outside_of(port: &[u64], starboard: &[u64], interval: u64, density: u64) -> Option<usize>
+    ensures { result ≡ place_in (count port.now starboard.now interval density) (outside port.now starboard.now interval density) }
 {
-    let to_port = ranges::hopper_width_outside(port);
-    if to_port < port.len() {
-        return to_port;
+    if let Some(place) = ranges::first_outside(port, Record::HopperWidth) {
+        return Some(place);
     }
-    let to_starboard = ranges::hopper_width_outside(starboard);
-    if to_starboard < starboard.len() {
-        return port.len() + to_starboard;
+    if let Some(place) = ranges::first_outside(starboard, Record::HopperWidth) {
+        return Some(port.len() + place);
     }
     let widths = port.len() + starboard.len();
-    if !ranges::whole_in_range(ranges::HOPPER_INTERVAL, interval) {
-        return widths;
+    if !interval.is_within(ranges::HOPPER_INTERVAL) {
+        return Some(widths);
     }
-    if !ranges::whole_in_range(ranges::LIQUID_DENSITY, density) {
-        return widths + 1;
+    if !density.is_within(ranges::LIQUID_DENSITY) {
+        return Some(widths + 1);
     }
-    widths + AFTER_WIDTHS
+    None
 }
 
 // The sums over one side.
@@ -81,14 +68,12 @@ fn side_of(table: &[u64]) -> Side
     let mut widths: u64 = 0;
     let mut squares: u64 = 0;
     let mut cubes: u64 = 0;
-    let mut i: usize = 0;
-    while i <= n {
+    for (i, width) in table.iter().enumerate() {
         let u = simpson::multiplier(n, i);
-        let width = table[i];
+        let width = *width;
         widths += u * width;
         squares += u * (width * width);
         cubes += u * (width * width * width);
-        i += 1;
     }
     Side {
         widths,
@@ -112,24 +97,22 @@ fn inertia_of(port: &[u64], starboard: &[u64], interval: u64) -> u64
 }
 
 // The free surface of widths to port and to starboard an interval apart, in mm, and of a liquid's density in kg/m³.
-pub fn surface_of(port: &[u64], starboard: &[u64], interval: u64, density: u64) -> Answer
+pub fn surface_of(
+    port: &[u64],
+    starboard: &[u64],
+    interval: u64,
+    density: u64,
+) -> Result<FreeSurface, Refusal>
     ensures { MakesSurface port.now starboard.now interval density result }
 {
     if !counts_fit(port.len(), starboard.len()) {
-        return Answer::Refused(Refusal {
-            number: Refusal::WRONG_SIZE,
-            place: 0,
-        });
+        return Err(Reason::WrongSize.at(0));
     }
-    let place = outside_of(port, starboard, interval, density);
-    if place < port.len() + starboard.len() + AFTER_WIDTHS {
-        return Answer::Refused(Refusal {
-            number: Refusal::OUT_OF_RANGE,
-            place,
-        });
+    if let Some(place) = outside_of(port, starboard, interval, density) {
+        return Err(Reason::OutOfRange.at(place));
     }
     let inertia = inertia_of(port, starboard, interval);
-    Answer::Found(FreeSurface {
+    Ok(FreeSurface {
         inertia,
         moment: arithmetic::rounded_up(inertia * density, MOMENT_UNIT),
     })

@@ -2,7 +2,7 @@
 --     particulars_told, hull_told                                     no number outside: all are in range
 --     bad_particular_said, wrong_table, wrong_room, bad_half_breadth       the refusals before the rows
 --     rows_follow                                                     where none of them holds
---     refuses, makes                                                  the promise, of a refusal and where the rows follow
+--     refuses, makes, refuses_at                                      the promise, of a refusal and where the rows follow
 -- Assumes nothing.
 use mathlib.Core.Path.{◌≡◌}
 use mathlib.Core.List.{List, map}
@@ -19,13 +19,16 @@ use Rattle.ranges.specs.Outside.{first_outside, bad_particular}
 use Rattle.ranges.specs.Refusals.{out_of_range, wrong_size, place_of_half_breadths, half_breadth_table, row_table}
 use Rattle.ranges.specs.Sizes.{points_of, row_width, rows_over}
 use Rattle.ranges.specs.declared.Particulars.{Particulars}
+use Rattle.ranges.specs.declared.refusal.Reason.{Reason}
+use Rattle.ranges.specs.declared.refusal.Refusal.{Refusal}
+use Rattle.std.specs.Prelude.{Result, Err}
 use Rattle.ranges.proofs.Facts.{particulars_in_range, half_breadths_in_range}
-use Rattle.hydrostatics.specs.Promise.{paper, MakesRows}
+use Rattle.ranges.specs.Reasons.{number_of, paper}
+use Rattle.hydrostatics.specs.Promise.{MakesRows}
 use Rattle.hydrostatics.specs.Row.{row_of}
 use Rattle.hydrostatics.specs.Rows.{rows_up_to, rows_by, rows_of}
 use Rattle.hydrostatics.specs.Private.Hull.{Complete, InRange}
 use Rattle.hydrostatics.specs.Private.Table.{FillsRows}
-use Rattle.hydrostatics.specs.declared.Rows.{Rows}
 
 pub particulars_told : {p : Particulars} {particular : ℕ} → particular ≡ bad_particular p → length particulars ≤ particular → ParticularsInRange p
 particulars_told {p} first a = particulars_in_range p (omega (arith, first))
@@ -67,10 +70,14 @@ module _ (table : List ℕ) (p : Particulars) (room : ℕ) {particular : ℕ} (f
         rows_follow d = simp (← first, ← second, le-ltb _ _ a, eq-eqb _ _ b, le-ltb _ _ c, le-ltb _ _ d, chosen)
 
 -- ---- the promise
-module _ {table : List ℕ} {p : Particulars} {rows : List ℕ} {answer : Rows} where
+module _ {table : List ℕ} {p : Particulars} {rows : List ℕ} {answer : Result ℕ Refusal} where
   pub refuses : {number place : ℕ} → rows_of table p (length rows) ≡ refused number place → paper answer ≡ refused number place → MakesRows table p rows rows answer
   unfolding answer_with left_with
   refuses e f = record { answer_is = rw e f; left = rw e }
 
   pub makes : {after : List ℕ} → rows_of table p (length rows) ≡ rows_up_to (row_of table p) (rows_over p.m) → FillsRows (row_of table p) (rows_over p.m) answer rows after → MakesRows table p rows after answer
   makes e f = record { answer_is = rw e f.tried.answer_is; left = rw e f.left }
+
+pub refuses_at : {table : List ℕ} {p : Particulars} {rows : List ℕ} {r : Refusal} {reason : Reason} {place : ℕ} → rows_of table p (length rows) ≡ refused (number_of reason) place → r ≡ record { reason = reason; place = place } → MakesRows table p rows rows (Err r)
+unfolding answer_with left_with
+refuses_at e f = record { answer_is = rw (e, f); left = rw e }

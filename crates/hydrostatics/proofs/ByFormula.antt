@@ -15,7 +15,7 @@ use Rattle.hydrostatics.specs.Private.Sections.{area_at, moment_at}
 use Rattle.hydrostatics.specs.Promise.{MakesRows}
 use Rattle.hydrostatics.specs.Row.{row_from, waterline_of}
 use Rattle.hydrostatics.specs.Usable.{row_in}
-use Rattle.hydrostatics.specs.declared.Rows.TheVariants.{Made}
+use Rattle.std.specs.Prelude.{Ok}
 use Rattle.hydrostatics.proofs.Exchange.{S_along, Sz_along, Sx_over}
 use Rattle.hydrostatics.proofs.MadeRows.{made_rows, made_length}
 
@@ -32,7 +32,7 @@ module _ (table : List ℕ) (p : Particulars) (f : Formula) (k : ℕ) (long : 2 
   Sz_exact c d = ap pos (Sz_along table p k) ∙ vertical_moment_exact f p.n k long deep (half_breadth table p) given c d
 
 -- of a call that answered
-module _ {table : List ℕ} {p : Particulars} {rows after : List ℕ} {count : ℕ} (made : MakesRows table p rows after (Made count)) (r : ℕ) (h : r < count) (f : Formula) (given : GivenBy f p.n (waterline_of r) (half_breadth table p)) where
+module _ {table : List ℕ} {p : Particulars} {rows after : List ℕ} {count : ℕ} (made : MakesRows table p rows after (Ok count)) (r : ℕ) (h : r < count) (f : Formula) (given : GivenBy f p.n (waterline_of r) (half_breadth table p)) where
   sum_exact : f.station_degree ≤ 3 → f.waterline_degree ≤ 3 → pos (S table p (waterline_of r)) ≡ volume f p.n (waterline_of r)
   sum_exact = S_exact table p f (waterline_of r) (made_length made) (omega arith) given
 

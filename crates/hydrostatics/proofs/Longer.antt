@@ -14,16 +14,18 @@ use Rattle.ranges.specs.Limits.{Limits, limits}
 use Rattle.ranges.specs.Outside.{bad_particular_by}
 use Rattle.ranges.specs.declared.Particulars.{Particulars}
 use Rattle.ranges.proofs.Longer.{Longer, none_bad_still, document_one, longer_now}
-use Rattle.hydrostatics.specs.Promise.{paper, count_of, table_after, MakesRows}
+use Rattle.ranges.specs.Reasons.{paper}
+use Rattle.hydrostatics.specs.Promise.{count_of, table_after, MakesRows}
 use Rattle.hydrostatics.specs.Rows.{rows_by, rows_of}
-use Rattle.hydrostatics.specs.declared.Rows.{Rows}
+use Rattle.ranges.specs.declared.refusal.Refusal.{Refusal}
+use Rattle.std.specs.Prelude.{Result}
 
 module _ (table : List ℕ) (p : Particulars) where
   pub rows_still : {short long : Limits} → Longer short long → length particulars ≤ bad_particular_by short p → (room : ℕ) → rows_by table p long room ≡ rows_by table p short room
   unfolding rows_by
   rows_still longer h room = simp (le-ltb (bad_particular_by _ p) (length particulars) h, none_bad_still longer p h, chosen)
 
-  pub made_still : {short : Limits} {rows after : List ℕ} {answer : Rows} → Longer short limits → length particulars ≤ bad_particular_by short p → MakesRows table p rows after answer
+  pub made_still : {short : Limits} {rows after : List ℕ} {answer : Result ℕ Refusal} → Longer short limits → length particulars ≤ bad_particular_by short p → MakesRows table p rows after answer
       → (paper answer ≡ count_of (rows_by table p short (length rows))) × (after ≡ table_after (rows_by table p short (length rows)) rows)
   made_still {rows = rows} longer h made =
       let same = rows_still longer h (length rows) in

@@ -16,12 +16,12 @@ use Rattle.hydrostatics.specs.Hull.{Q}
 use Rattle.hydrostatics.specs.Row.{row_from, row_of, waterline_of}
 use Rattle.hydrostatics.specs.Rows.{rows_of}
 use Rattle.hydrostatics.specs.Usable.{row_in}
-use Rattle.hydrostatics.specs.declared.Rows.TheVariants.{Made}
+use Rattle.std.specs.Prelude.{Ok}
 use Rattle.hydrostatics.proofs.Passed.{counted}
 use Rattle.hydrostatics.proofs.Reading.{numbers_part, row_in_is}
 use Rattle.hydrostatics.proofs.Usable.{answered_rows, served}
 
-pub made_rows : {table : List ℕ} {p : Particulars} {rows after : List ℕ} {count : ℕ} → MakesRows table p rows after (Made count) → (count ≡ rows_over p.m) × ((r : ℕ) → r < count → row_in after r ≡ row_of table p r)
+pub made_rows : {table : List ℕ} {p : Particulars} {rows after : List ℕ} {count : ℕ} → MakesRows table p rows after (Ok count) → (count ≡ rows_over p.m) × ((r : ℕ) → r < count → row_in after r ≡ row_of table p r)
 unfolding left_with
 made_rows {table} {p} {rows} {after} {count} made =
     counted (rows_of table p (length rows)) made.answer_is (λ numbers so e.
@@ -34,10 +34,10 @@ made_rows {table} {p} {rows} {after} {count} made =
           (row_in_is (numbers_part (row_of table p) (rows_over p.m) r _ (omega arith))),
     ))
 
-pub made_length : {table : List ℕ} {p : Particulars} {rows after : List ℕ} {count : ℕ} → MakesRows table p rows after (Made count) → 2 ≤ p.n
+pub made_length : {table : List ℕ} {p : Particulars} {rows after : List ℕ} {count : ℕ} → MakesRows table p rows after (Ok count) → 2 ≤ p.n
 made_length {table} {p} {rows} made =
     counted (rows_of table p (length rows)) made.answer_is (λ numbers so e. (answered_rows (length rows) so).hull.complete.particulars.n_least)
 
-pub made_area : {table : List ℕ} {p : Particulars} {rows after : List ℕ} {count : ℕ} → MakesRows table p rows after (Made count) → (r : ℕ) → r < count → (2 ≤ p.n) × ((row_in after r).area ≡ p.s * Q table p (waterline_of r) / 12)
+pub made_area : {table : List ℕ} {p : Particulars} {rows after : List ℕ} {count : ℕ} → MakesRows table p rows after (Ok count) → (r : ℕ) → r < count → (2 ≤ p.n) × ((row_in after r).area ≡ p.s * Q table p (waterline_of r) / 12)
 unfolding row_from
 made_area made r h = (made_length made, ap (λ row. row.area) ((made_rows made).1 r h))

@@ -18,14 +18,14 @@ use Rattle.ranges.specs.Fields.{highest_metacentre}
 use Rattle.ranges.specs.Outcome.{Outcome, answered, refused, left_with}
 use Rattle.ranges.specs.Refusals.{displacement_not_rising, metacentre_too_high}
 use Rattle.ranges.specs.Sizes.{row_width}
-use Rattle.hydrostatics.specs.Promise.{paper, count_of, row_count}
+use Rattle.hydrostatics.specs.Promise.{count_of, row_count}
 use Rattle.hydrostatics.specs.Row.{numbers_of}
 use Rattle.hydrostatics.specs.Rows.{displacement_before, rows_up_to}
 use Rattle.hydrostatics.specs.Private.Table.{numbers_up_to, TriedRows, FillsRows}
 use Rattle.hydrostatics.specs.declared.Row.{Row}
-use Rattle.hydrostatics.specs.declared.Rows.{Rows}
-use Rattle.hydrostatics.specs.declared.Rows.TheVariants.{Made, Refused}
-use Rattle.ranges.specs.declared.Refusal.{Refusal}
+use Rattle.std.specs.Prelude.{Result, Ok, Err}
+use Rattle.std.specs.Result.{IsErrAnd}
+use Rattle.ranges.specs.declared.refusal.Refusal.{Refusal}
 use Rattle.ranges.proofs.Outcomes.{not_refused, answered_then, with_answered, with_refused, left_refused}
 use Rattle.hydrostatics.proofs.Writing.{numbers_length}
 
@@ -62,27 +62,28 @@ module _ {row : ℕ → Row} where
 pub counted : {X : Type 0} (o : Outcome (List ℕ)) {count : ℕ} → answered count ≡ count_of o → ((numbers : List ℕ) → o ≡ answered numbers → count ≡ length numbers / row_width → X) → X
 counted o e on = let x = with_answered row_count o (sym e) in on x.0 x.1 x.2
 
-module _ {row : ℕ → Row} {count : ℕ} {answer : Rows} (so : TriedRows row count answer) where
-  module _ {made : ℕ} (is : answer ≡ Made made) where
-    all : (made ≡ count) × (rows_up_to row count ≡ answered (numbers_up_to row count))
-    all =
-        counted (rows_up_to row count) (sym (ap paper is) ∙ so.answer_is) (λ numbers o e.
-        let numbers_are = (passed count o).numbers_are in (
-          omega (arith, ap length numbers_are, numbers_length row count),
-          o ∙ ap answered numbers_are,
-        ))
+module _ {row : ℕ → Row} {count made : ℕ} (so : TriedRows row count (Ok made)) where
+  all : (made ≡ count) × (rows_up_to row count ≡ answered (numbers_up_to row count))
+  all =
+      counted (rows_up_to row count) so.answer_is (λ numbers o e.
+      let numbers_are = (passed count o).numbers_are in (
+        omega (arith, ap length numbers_are, numbers_length row count),
+        o ∙ ap answered numbers_are,
+      ))
 
-    pub made_count : made ≡ count
-    made_count = all.0
+  pub made_count : made ≡ count
+  made_count = all.0
 
-    pub made_left : {was after : List ℕ} → after ≡ numbers_up_to row made ++ drop (row_width * made) was → FillsRows row count (Made made) was after
-    unfolding left_with
-    made_left e = record {
-      tried = record { answer_is = sym (ap paper is) ∙ so.answer_is };
-      left = rw (all.1, numbers_length row count, ← made_count) e;
-    }
+  pub made_left : {was after : List ℕ} → after ≡ numbers_up_to row made ++ drop (row_width * made) was → FillsRows row count (Ok made) was after
+  unfolding left_with
+  made_left e = record { tried = so; left = rw (all.1, numbers_length row count, ← made_count) e }
 
-  pub refused_left : {r : Refusal} {was : List ℕ} → answer ≡ Refused r → FillsRows row count answer was was
-  refused_left {was = was} e =
-      let rows = rows_up_to row count in
-      record { tried = so; left = sym (left_refused (λ numbers. numbers) rows was (with_refused row_count rows (sym so.answer_is ∙ ap paper e))) }
+pub refused_left : {row : ℕ → Row} {count : ℕ} {r : Refusal} {was : List ℕ} → TriedRows row count (Err r) → FillsRows row count (Err r) was was
+refused_left {row} {count} {was = was} so =
+    let rows = rows_up_to row count in
+    record { tried = so; left = sym (left_refused (λ numbers. numbers) rows was (with_refused row_count rows (sym so.answer_is))) }
+
+-- and after one that `?` hands on
+pub refused_on : {row : ℕ → Row} {count : ℕ} {r : Refusal} {was : List ℕ} {answer : Result ℕ Refusal} → TriedRows row count (Err r) → IsErrAnd answer (λ s. s ≡ r) → FillsRows row count answer was was
+refused_on {answer = Ok n} so e = elim e [ ]
+refused_on {answer = Err s} so e = rw e (refused_left so)

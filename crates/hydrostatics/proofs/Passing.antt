@@ -18,13 +18,13 @@ use Rattle.ranges.specs.Fields.{highest_metacentre}
 use Rattle.ranges.specs.Outcome.{answered, refused, and_then, answer_with}
 use Rattle.ranges.specs.Refusals.{displacement_not_rising, metacentre_too_high}
 use Rattle.ranges.specs.Sizes.{row_width}
-use Rattle.hydrostatics.specs.Promise.{paper}
+use Rattle.ranges.specs.Reasons.{paper}
 use Rattle.hydrostatics.specs.Row.{numbers_of}
 use Rattle.hydrostatics.specs.Rows.{displacement_before, rows_up_to}
 use Rattle.hydrostatics.specs.Private.Table.{numbers_up_to, TriedRows}
 use Rattle.hydrostatics.specs.declared.Row.{Row}
-use Rattle.hydrostatics.specs.declared.Rows.{Rows}
-use Rattle.hydrostatics.specs.declared.Rows.TheVariants.{Made}
+use Rattle.ranges.specs.declared.refusal.Refusal.{Refusal}
+use Rattle.std.specs.Prelude.{Result, Ok}
 use Rattle.hydrostatics.proofs.Writing.{numbers_more, numbers_length}
 
 pub record Passing (row : ℕ → Row) (r before : ℕ) : Type 0 where
@@ -63,11 +63,11 @@ module _ {row : ℕ → Row} where
 
 -- ---- what is answered
 module _ {row : ℕ → Row} {count : ℕ} where
-  pub refusal : {number place : ℕ} {answer : Rows} → rows_up_to row count ≡ refused number place → paper answer ≡ refused number place → TriedRows row count answer
+  pub refusal : {number place : ℕ} {answer : Result ℕ Refusal} → rows_up_to row count ≡ refused number place → paper answer ≡ refused number place → TriedRows row count answer
   unfolding answer_with
   refusal e f = record { answer_is = rw e f }
 
-  pub passing_all : {r before : ℕ} → Passing row r before → r ≡ count → TriedRows row count (Made count)
+  pub passing_all : {r before : ℕ} → Passing row r before → r ≡ count → TriedRows row count (Ok count)
   unfolding answer_with
   passing_all so e =
       let each : row_width * count / row_width ≡ count = omega arith in

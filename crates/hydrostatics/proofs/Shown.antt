@@ -2,9 +2,9 @@
 --     thousand, million                   the code's units, which it has by their bits
 --     shown_refused, shown_all, shown     what is displayed, by the place of the first number outside
 -- Assumes nothing.
-use mathlib.Core.Path.{◌≡◌, refl}
+use mathlib.Core.Path.{◌≡◌, refl, sym}
 use mathlib.Core.List.{map}
-use Prim.Native.Nat.{ℕ, ◌≤◌, ◌<◌}
+use Prim.Native.Nat.{ℕ}
 use native.Mathlib.Omega.{arith}
 use borrow.Author.Tests.{lt-ltb, le-ltb}
 use lib.Ieee.{binary64, of_bits, of_int}
@@ -15,7 +15,9 @@ use Rattle.ranges.specs.Outcome.{answered, refused}
 use Rattle.ranges.specs.Outside.{first_outside}
 use Rattle.ranges.specs.Refusals.{out_of_range}
 use Rattle.ranges.specs.Sizes.{row_width}
-use Rattle.ranges.proofs.Outside.{outside_le}
+use Rattle.ranges.specs.Private.Bounds.{place_in}
+use Rattle.ranges.proofs.Outside.{outside_le, some_place, none_place}
+use Rattle.std.specs.Prelude.{Some, None}
 use Rattle.hydrostatics.specs.Display.{figures_of, display_of}
 use Rattle.hydrostatics.specs.Row.{numbers_of}
 use Rattle.hydrostatics.specs.declared.Row.{Row}
@@ -29,15 +31,15 @@ unfolding of_bits of_int
 million = refl
 
 -- ---- what is displayed
-module _ (row : Row) {place : ℕ} (first : place ≡ first_outside row_ranges (map pos (numbers_of row))) where
-  pub shown_refused : place < row_width → refused out_of_range place ≡ display_of row
+module _ (row : Row) where
+  pub shown_refused : {place : ℕ} → Some place ≡ place_in row_width (first_outside row_ranges (map pos (numbers_of row))) → refused out_of_range place ≡ display_of row
   unfolding display_of
-  shown_refused h = simp (← first, lt-ltb _ _ h, chosen)
+  shown_refused first = let at = some_place (sym first) in simp (← at.0, lt-ltb _ _ at.1, chosen)
 
-  module _ (h : row_width ≤ place) where
+  module _ (none : None ≡ place_in row_width (first_outside row_ranges (map pos (numbers_of row)))) where
     pub shown_all : first_outside row_ranges (map pos (numbers_of row)) ≡ row_width
-    shown_all = omega (arith, first, outside_le row_ranges (map pos (numbers_of row)))
+    shown_all = omega (arith, none_place (sym none), outside_le row_ranges (map pos (numbers_of row)))
 
     pub shown : answered (figures_of row) ≡ display_of row
     unfolding display_of
-    shown = simp (← first, le-ltb _ _ h, chosen)
+    shown = simp (le-ltb _ _ (none_place (sym none)), chosen)

@@ -16,7 +16,8 @@ use Rattle.hydrostatics.specs.Private.Hull.{InRange}
 use Rattle.hydrostatics.specs.Private.Sums.{MakesSums, SumsWithin, AllWithin}
 use Rattle.hydrostatics.specs.Private.Table.{rows_from, FillsRows}
 use Rattle.hydrostatics.specs.declared.Row.{Row}
-use Rattle.hydrostatics.specs.declared.Rows.{Rows}
+use Rattle.ranges.specs.declared.refusal.Refusal.{Refusal}
+use Rattle.std.specs.Prelude.{Result}
 use Rattle.hydrostatics.specs.declared.table.Sums.{Sums}
 use Rattle.hydrostatics.proofs.Limits.{Q_most, C_most, S_most, Sz_most, Sx_most}
 
@@ -49,7 +50,7 @@ module _ {table : List ℕ} {p : Particulars} where
       each = λ r h. rw (made.each.at r h) (sums_within hull (omega (arith, hull.complete.particulars.m_most)));
     }
 
-    pub fills_hull : {rows after : List ℕ} {answer : Rows} → FillsRows (rows_from p sums) (rows_over p.m) answer rows after → FillsRows (row_of table p) (rows_over p.m) answer rows after
+    pub fills_hull : {rows after : List ℕ} {answer : Result ℕ Refusal} → FillsRows (rows_from p sums) (rows_over p.m) answer rows after → FillsRows (row_of table p) (rows_over p.m) answer rows after
     fills_hull filled =
         let same = up_to_same (rows_from p sums) (row_of table p) (rows_over p.m) (λ r h. ap (row_from p (waterline_of r)) (made.each.at r h)) in
         record { tried = record { answer_is = rw same at filled.tried.answer_is }; left = rw same at filled.left }

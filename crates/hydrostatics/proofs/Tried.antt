@@ -1,10 +1,10 @@
 -- A hull that is tried while it is swept.
 --     line_outside                  a half-breadth that is out of range on its waterline is so in the table
 --     lines_in_range                a complete hull whose waterlines are in range is in range
+--     one_outside, all_inside, found       what the walk over the table finds, or does not
 --     none_outside                  and no number of its table is outside
---     tried_made, tried_outside     what an engine answers, either way
 -- Assumes nothing.
-use mathlib.Core.Path.{◌≡◌, sym}
+use mathlib.Core.Path.{◌≡◌, refl, sym, subst, ◌∙◌}
 use mathlib.Core.Bool.{true, false}
 use mathlib.Core.List.{List, map}
 use Prim.Native.Nat.{ℕ, ◌+◌, ◌*◌, ◌/◌, ◌%◌, ◌≤◌, ◌<◌}
@@ -13,6 +13,11 @@ use native.Mathlib.Omega.{arith}
 use lib.IntN.{pos}
 use lib.ListN.{length}
 use Rattle.arithmetic.proofs.Tests.{never}
+use Rattle.ranges.specs.Private.Bounds.{place_in}
+use Rattle.ranges.proofs.Outside.{place_some, some_place, none_place}
+use Rattle.std.specs.Prelude.{Option, Some, None}
+use Rattle.std.specs.Option.{is_some, IsSome}
+use Rattle.hydrostatics.proofs.Answers.{hull_told}
 use Rattle.ranges.specs.Fields.{range_of, most, within}
 use Rattle.ranges.specs.Fields as Fields
 use Rattle.ranges.specs.Outside.{first_outside}
@@ -20,9 +25,7 @@ use Rattle.ranges.specs.declared.Particulars.{Particulars}
 use Rattle.ranges.proofs.Facts.{everywhere, wholes_inside, whole_outside}
 use Rattle.hydrostatics.specs.Hull.{half_breadth}
 use Rattle.hydrostatics.specs.Private.Hull.{Complete, InRange, OneOutside}
-use Rattle.hydrostatics.specs.Private.Sums.{MakesSums, TriedSums}
 use Rattle.hydrostatics.specs.Private.Waterplanes.{LineInRange}
-use Rattle.hydrostatics.specs.declared.table.Sums.{Sums}
 use Rattle.hydrostatics.proofs.Limits.{place_within}
 
 module _ {table : List ℕ} {p : Particulars} (hull : Complete table p) where
@@ -42,13 +45,17 @@ module _ {table : List ℕ} {p : Particulars} (hull : Complete table p) where
         rw (div-add-mod' k w) at (lines (k % w) (mod-lt k (omega arith)) (k / w) station));
   }
 
+-- what the walk over the table answers
+pub one_outside : (table : List ℕ) {o : Option ℕ} → o ≡ place_in (length table) (first_outside Fields.half_breadth (map pos table)) → true ≡ is_some o → OneOutside table
+one_outside table {o = Some place} e t = (some_place (sym e)).1
+one_outside table {o = None} e t = never (sym t)
+
+pub all_inside : {table : List ℕ} {p : Particulars} {o : Option ℕ} → Complete table p → o ≡ place_in (length table) (first_outside Fields.half_breadth (map pos table)) → false ≡ is_some o → InRange table p
+all_inside {o = Some place} hull e t = never t
+all_inside {o = None} hull e t = hull_told hull refl (none_place (sym e))
+
+pub found : (table : List ℕ) {o : Option ℕ} → OneOutside table → o ≡ place_in (length table) (first_outside Fields.half_breadth (map pos table)) → IsSome o
+found table h e = subst (λ o. IsSome o) (sym (e ∙ place_some h)) refl
+
 pub none_outside : {table : List ℕ} {p : Particulars} → InRange table p → first_outside Fields.half_breadth (map pos table) ≡ length table
 none_outside {table} hull = wholes_inside 0 (most (range_of 5)) table (λ k l. (omega arith, hull.half_breadths_ranged k))
-
--- ---- what an engine answers
-module _ {table : List ℕ} {p : Particulars} {sums : List Sums} where
-  pub tried_made : InRange table p → MakesSums table p sums → TriedSums table p (record { in_range = true; sums = sums })
-  tried_made hull made = record { made = λ e. (hull, made); outside = λ e. never (sym e) }
-
-  pub tried_outside : OneOutside table → TriedSums table p (record { in_range = false; sums = sums })
-  tried_outside out = record { made = λ e. never e; outside = λ e. out }

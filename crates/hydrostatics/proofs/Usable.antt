@@ -28,7 +28,7 @@ use Rattle.hydrostatics.specs.Row.{waterline_of, row_from, row_of}
 use Rattle.hydrostatics.specs.Rows.{displacement_before, rows_by, rows_of}
 use Rattle.hydrostatics.specs.Usable.{in_range, spaced, rises, metacentre_fits, usable_row, usable_up_to}
 use Rattle.hydrostatics.specs.Private.Hull.{Complete, InRange}
-use Rattle.hydrostatics.specs.declared.Rows.TheVariants.{Made}
+use Rattle.std.specs.Prelude.{Ok}
 use Rattle.hydrostatics.proofs.Answers.{particulars_told, hull_told}
 use Rattle.hydrostatics.proofs.InRows.{none_outside}
 use Rattle.hydrostatics.proofs.Metacentre.{metacentre_fitting}
@@ -131,7 +131,7 @@ pub record MadeUsable (after : List ℕ) (count : ℕ) : Type 0 where
   pub after_is : after ≡ numbers ++ beyond
   pub usable : Served numbers count
 
-pub made_usable : {table : List ℕ} {p : Particulars} {rows after : List ℕ} {count : ℕ} → MakesRows table p rows after (Made count) → MadeUsable after count
+pub made_usable : {table : List ℕ} {p : Particulars} {rows after : List ℕ} {count : ℕ} → MakesRows table p rows after (Ok count) → MadeUsable after count
 unfolding left_with
 made_usable {table} {p} {rows} made =
     counted (rows_of table p (length rows)) made.answer_is (λ numbers so e.

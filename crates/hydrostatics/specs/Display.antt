@@ -10,8 +10,6 @@ use Rattle.ranges.specs.Fields.{row_ranges}
 use Rattle.ranges.specs.Refusals.{out_of_range}
 use Rattle.ranges.specs.Sizes.{row_width}
 use Rattle.hydrostatics.specs.Row.{numbers_of}
-use Rattle.hydrostatics.specs.declared.Display.{Display}
-use Rattle.hydrostatics.specs.declared.Display.TheVariants.{Shown, Refused}
 use Rattle.hydrostatics.specs.declared.Figures.{Figures}
 use Rattle.hydrostatics.specs.declared.Row.{Row}
 
@@ -35,8 +33,3 @@ unfoldable pub display_of : Row → Outcome Figures
 display_of row =
     let outside = first_outside row_ranges (map pos (numbers_of row)) in
     when ltb outside row_width then refused out_of_range outside else answered (figures_of row)
-
--- the paper's number and values for each answer
-abbrev pub paper : Display → Outcome Figures
-paper (Shown figures) = answered figures
-paper (Refused r) = refused r.number r.place

@@ -9,19 +9,22 @@ ghost use Rattle.std.specs.Prelude.{◌≡◌, map, ◌<◌, ◌≤◌, ◌^◌,
 ghost use Rattle.std.specs.Float.Ieee as Ieee;
 ghost use Rattle.std.specs.Float.{binary64};
 ghost use Rattle.ranges.specs.Outside.{first_outside};
-ghost use Rattle.hydrostatics.specs.Display.{paper, figures_of, display_of};
+ghost use Rattle.hydrostatics.specs.Display.{figures_of, display_of};
 ghost use Rattle.hydrostatics.specs.Promise.{MakesRows};
+ghost use Rattle.hydrostatics.specs.Usable.{row_in};
 ghost use Rattle.ranges.specs.Fields.{row_ranges};
+ghost use Rattle.ranges.specs.Private.Bounds.{place_in};
+ghost use Rattle.ranges.specs.Reasons.{paper};
 ghost use Rattle.ranges.specs.Sizes.{row_width};
 ghost use Rattle.hydrostatics.specs.Row.{numbers_of};
 ghost use Rattle.hydrostatics.specs.Private.Hull.{Complete};
 ghost use Rattle.hydrostatics.specs.Private.Sums.{TriedSums};
 
-use ranges::{Particulars, Refusal};
-use table::{HullSums, OUTSIDE, fill_rows, refused};
+use ranges::{Particulars, Reason, Record, Refusal};
+use table::{Sums, fill_rows};
 
 // The seven numbers of a row: mm, kg, mm, mm, mm, mm, mm².
-#[derive(Clone, Copy)]
+#[derive(Clone, Copy, Debug, PartialEq, Eq)]
 pub struct Row {
     pub draft: u64,
     pub displacement: u64,
@@ -32,15 +35,8 @@ pub struct Row {
     pub area: u64,
 }
 
-// What making the rows of a hull answers: how many there are, or the refusal.
-#[derive(Clone, Copy)]
-pub enum Rows {
-    Made(usize),
-    Refused(Refusal),
-}
-
 // A row for display: metres, tonnes, and square metres for the area.
-#[derive(Clone, Copy)]
+#[derive(Clone, Copy, Debug, PartialEq)]
 pub struct Figures {
     pub draft: f64,
     pub displacement: f64,
@@ -51,19 +47,47 @@ pub struct Figures {
     pub area: f64,
 }
 
-// What displaying a row answers: its figures, or the refusal.
-#[derive(Clone, Copy)]
-pub enum Display {
-    Shown(Figures),
-    Refused(Refusal),
-}
-
 // How many numbers a row has, how many rows the largest hull has, and the room for all of them.
 pub const ROW_WIDTH: usize = ranges::ROW_WIDTH;
 
 pub const MOST_ROWS: usize = ranges::MOST_ROWS;
 
 pub const ROW_ROOM: usize = ROW_WIDTH * MOST_ROWS;
+
+impl From<[u64; ROW_WIDTH]> for Row {
+    ghost from_gives = { λ numbers row. row ≡ row_in numbers 0 };
+
+    #[tactic(auto, unfolding(crate::specs::Usable::row_in))]
+    fn from(numbers: [u64; ROW_WIDTH]) -> Row {
+        let [draft, displacement, lcb, kb, bm, km, area] = numbers;
+        Row {
+            draft,
+            displacement,
+            lcb,
+            kb,
+            bm,
+            km,
+            area,
+        }
+    }
+}
+
+impl Row {
+    // The seven numbers, in the file's order.
+    pub fn numbers(self) -> [u64; ROW_WIDTH]
+        ensures { result ≡ numbers_of self }
+    {
+        [
+            self.draft,
+            self.displacement,
+            self.lcb,
+            self.kb,
+            self.bm,
+            self.km,
+            self.area,
+        ]
+    }
+}
 
 // How the sums of a hull's rows are worked: waterline by waterline, or station by station as a surveyor does.
 #[derive(Clone, Copy)]
@@ -72,62 +96,64 @@ enum Engine {
     Sections,
 }
 
-// The five sums of every row of a complete hull, the same by either; or that a half-breadth is out of range, which the waterplanes
-// find as they are swept.
-fn sums_by(engine: Engine, half_breadths: &[u64], p: Particulars) -> HullSums
+// The five sums of every row of a complete hull, the same by either; none where a half-breadth is out of range, which the
+// waterplanes find as they are swept.
+fn sums_by(engine: Engine, half_breadths: &[u64], p: Particulars) -> Option<[Sums; MOST_ROWS]>
     requires { Complete half_breadths.now p }
     ensures { TriedSums half_breadths.now p result }
 {
     match engine {
         Engine::Waterplanes => waterplanes::hull_sums(half_breadths, p),
         Engine::Sections => {
-            if ranges::half_breadth_outside(half_breadths) < half_breadths.len() {
-                return OUTSIDE;
+            if ranges::first_outside(half_breadths, Record::HalfBreadth).is_some() {
+                return None;
             }
-            let sums = sections::hull_sums(half_breadths, p);
-            HullSums {
-                in_range: true,
-                sums,
-            }
+            Some(sections::hull_sums(half_breadths, p))
         }
     }
 }
 
 // The rows of a hull into the lent table, by either.
-fn make_by(engine: Engine, half_breadths: &[u64], p: Particulars, rows: &mut [u64]) -> Rows
+fn make_by(
+    engine: Engine,
+    half_breadths: &[u64],
+    p: Particulars,
+    rows: &mut [u64],
+) -> Result<usize, Refusal>
     ensures { MakesRows half_breadths.now p rows.old rows.new result }
 {
-    let particular = ranges::bad_particular(p);
-    if particular < ranges::PARTICULAR_COUNT {
-        return refused(Refusal::OUT_OF_RANGE, particular);
+    if let Some(place) = ranges::bad_particular(p) {
+        return Err(Reason::OutOfRange.at(place));
     }
     let n = p.n;
     let m = p.m;
     if half_breadths.len() != (n + 1) * (m + 1) {
-        return refused(Refusal::WRONG_SIZE, Refusal::HALF_BREADTH_TABLE);
+        return Err(Reason::WrongSize.at(Refusal::HALF_BREADTH_TABLE));
     }
     if rows.len() < ROW_WIDTH * (m - 1) {
-        return refused(Refusal::WRONG_SIZE, Refusal::ROW_TABLE);
+        return Err(Reason::WrongSize.at(Refusal::ROW_TABLE));
     }
-    let hull = sums_by(engine, half_breadths, p);
-    if !hull.in_range {
+    let Some(sums) = sums_by(engine, half_breadths, p) else {
         // The first one out of range is looked for only where there is one.
-        let outside = ranges::half_breadth_outside(half_breadths);
-        return refused(Refusal::OUT_OF_RANGE, Refusal::HALF_BREADTHS_AT + outside);
-    }
-    let sums = hull.sums;
+        let outside = ranges::first_outside(half_breadths, Record::HalfBreadth).unwrap();
+        return Err(Reason::OutOfRange.at(Refusal::HALF_BREADTHS_AT + outside));
+    };
     fill_rows(p, sums, rows)
 }
 
 // The rows of a hull into the lent table.
-pub fn make_rows(half_breadths: &[u64], p: Particulars, rows: &mut [u64]) -> Rows
+pub fn make_rows(half_breadths: &[u64], p: Particulars, rows: &mut [u64]) -> Result<usize, Refusal>
     ensures { MakesRows half_breadths.now p rows.old rows.new result }
 {
     make_by(Engine::Waterplanes, half_breadths, p, rows)
 }
 
 // The same rows by the plain calculation that a surveyor follows: station areas first, and then along the length.
-pub fn make_rows_by_sections(half_breadths: &[u64], p: Particulars, rows: &mut [u64]) -> Rows
+pub fn make_rows_by_sections(
+    half_breadths: &[u64],
+    p: Particulars,
+    rows: &mut [u64],
+) -> Result<usize, Refusal>
     ensures { MakesRows half_breadths.now p rows.old rows.new result }
 {
     make_by(Engine::Sections, half_breadths, p, rows)
@@ -138,20 +164,12 @@ const METRE: f64 = 1_000.0;
 
 const SQUARE_METRE: f64 = 1_000_000.0;
 
-// The place of the first number of a row out of range, or 7.
-pub fn row_outside(row: Row) -> usize
-    ensures { result ≡ first_outside row_ranges (map pos (numbers_of row)) }
+// The place of the first number of a row out of range.
+pub fn row_outside(row: Row) -> Option<usize>
+    ensures { result ≡ place_in row_width (first_outside row_ranges (map pos (numbers_of row))) }
 {
-    let numbers = [
-        row.draft,
-        row.displacement,
-        row.lcb,
-        row.kb,
-        row.bm,
-        row.km,
-        row.area,
-    ];
-    ranges::row_outside(&numbers)
+    let numbers = row.numbers();
+    ranges::first_outside(&numbers, Record::Row)
 }
 
 // n over a unit: one division, of a whole number that is converted exactly.
@@ -179,15 +197,11 @@ fn figures_of(row: Row) -> Figures
 }
 
 // A row for display, in metres, tonnes and square metres.
-pub fn display_row(row: Row) -> Display
+pub fn display_row(row: Row) -> Result<Figures, Refusal>
     ensures { paper result ≡ display_of row }
 {
-    let place = row_outside(row);
-    if place < ROW_WIDTH {
-        return Display::Refused(Refusal {
-            number: Refusal::OUT_OF_RANGE,
-            place,
-        });
+    if let Some(place) = row_outside(row) {
+        return Err(Reason::OutOfRange.at(place));
     }
-    Display::Shown(figures_of(row))
+    Ok(figures_of(row))
 }

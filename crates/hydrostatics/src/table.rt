@@ -1,16 +1,14 @@
 // The table of rows, from the five sums of each on: each row is made from its sums and tried, and only when all have passed is each
 // made again and written into its part of the lent table. How the sums are made, no function here knows.
 ghost use Rattle.std.specs.Prelude.{◌≡◌, ◌++◌, ◌*◌, ◌≤◌, length, drop};
-ghost use Rattle.ranges.specs.Outcome.{refused as Outcome·refused};
 ghost use Rattle.ranges.specs.Sizes.{row_width, rows_over};
-ghost use Rattle.hydrostatics.specs.Promise.{paper};
 ghost use Rattle.ranges.specs.Private.InRange.{ParticularsInRange};
 ghost use Rattle.hydrostatics.specs.Row.{row_from, numbers_of};
 ghost use Rattle.hydrostatics.specs.Private.Sums.{SumsWithin, AllWithin};
 ghost use Rattle.hydrostatics.specs.Private.Table.{numbers_up_to, rows_from, TriedRows, FillsRows};
 
-use crate::{MOST_ROWS, ROW_WIDTH, Row, Rows};
-use ranges::{HIGHEST_METACENTRE, Particulars, Refusal};
+use crate::{MOST_ROWS, ROW_WIDTH, Row};
+use ranges::{HIGHEST_METACENTRE, Particulars, Reason, Refusal};
 
 // The five sums that the row of a waterline is made of: S, Sz and Sx over its waterlines, Q and C of its own.
 #[derive(Clone, Copy)]
@@ -20,13 +18,6 @@ pub(crate) struct Sums {
     pub sx: u64,
     pub q: u64,
     pub c: u64,
-}
-
-// What an engine makes of a hull: whether its half-breadths are in range, and where they are the sums of every row.
-#[derive(Clone, Copy)]
-pub(crate) struct HullSums {
-    pub in_range: bool,
-    pub sums: [Sums; MOST_ROWS],
 }
 
 // Row r belongs to waterline r + 2.
@@ -39,12 +30,6 @@ pub(crate) const NO_SUMS: Sums = Sums {
     sx: 0,
     q: 0,
     c: 0,
-};
-
-// What an engine answers where a half-breadth is out of range.
-pub(crate) const OUTSIDE: HullSums = HullSums {
-    in_range: false,
-    sums: [NO_SUMS; MOST_ROWS],
 };
 
 // Both sides of a hull hold 2·s·d·S/24² mm³, and a cubic metre is 10⁹ mm³: s·d·S·density is so many times the displacement.
@@ -93,15 +78,8 @@ fn row_from(p: Particulars, k: usize, sums: Sums) -> Row
     }
 }
 
-// The answer that refuses.
-pub(crate) fn refused(number: u64, place: usize) -> Rows
-    ensures { paper result ≡ Outcome·refused number place }
-{
-    Rows::Refused(Refusal { number, place })
-}
-
 // Every row made and tried, row by row upward.
-fn try_rows(p: Particulars, sums: [Sums; MOST_ROWS]) -> Rows
+fn try_rows(p: Particulars, sums: [Sums; MOST_ROWS]) -> Result<usize, Refusal>
     requires { AllWithin p sums }
     ensures { TriedRows (rows_from p sums) (rows_over p.m) result }
 {
@@ -112,15 +90,15 @@ fn try_rows(p: Particulars, sums: [Sums; MOST_ROWS]) -> Rows
         let row = row_from(p, r + FIRST_WATERLINE, sums[r]);
         let displacement = row.displacement;
         if displacement <= before {
-            return refused(Refusal::DISPLACEMENT_NOT_RISING, r);
+            return Err(Reason::DisplacementNotRising.at(r));
         }
         if HIGHEST_METACENTRE < row.km {
-            return refused(Refusal::METACENTRE_TOO_HIGH, r);
+            return Err(Reason::MetacentreTooHigh.at(r));
         }
         before = displacement;
         r += 1;
     }
-    Rows::Made(all)
+    Ok(all)
 }
 
 // One row, into the front of the part of the table that it is lent.
@@ -152,13 +130,15 @@ fn write_rows(p: Particulars, sums: [Sums; MOST_ROWS], count: usize, rows: &mut 
 }
 
 // The rows of these sums: tried first, with the table untouched, and written once all have passed.
-pub(crate) fn fill_rows(p: Particulars, sums: [Sums; MOST_ROWS], rows: &mut [u64]) -> Rows
+pub(crate) fn fill_rows(
+    p: Particulars,
+    sums: [Sums; MOST_ROWS],
+    rows: &mut [u64],
+) -> Result<usize, Refusal>
     requires { AllWithin p sums × (row_width * rows_over p.m ≤ length rows.old) }
     ensures { FillsRows (rows_from p sums) (rows_over p.m) result rows.old rows.new }
 {
-    let answer = try_rows(p, sums);
-    if let Rows::Made(count) = answer {
-        write_rows(p, sums, count, rows);
-    }
-    answer
+    let count = try_rows(p, sums)?;
+    write_rows(p, sums, count, rows);
+    Ok(count)
 }

@@ -11,8 +11,8 @@ ghost use Rattle.hydrostatics.specs.Private.Sums.{no_sums, TriedSums};
 ghost use Rattle.hydrostatics.specs.Private.Waterplanes.{Given, GatheredOf, Small, sums_from};
 
 use crate::MOST_ROWS;
-use crate::table::{FIRST_WATERLINE, HullSums, NO_SUMS, OUTSIDE, Sums};
-use ranges::{MOST_STATIONS, MOST_WATERLINES, Particulars};
+use crate::table::{FIRST_WATERLINE, NO_SUMS, Sums};
+use ranges::{MOST_STATIONS, MOST_WATERLINES, Number, Particulars};
 
 // What one waterline contributes: the sums of u·y, of u·y times the station's number, and of u·y³.
 #[derive(Clone, Copy)]
@@ -20,13 +20,6 @@ struct Waterline {
     pub q: u64,
     pub x: u64,
     pub c: u64,
-}
-
-// What a sweep over a waterline ends with.
-#[derive(Clone, Copy)]
-enum Gathered {
-    Whole(Waterline),
-    Outside,
 }
 
 // The multipliers of the stations over n intervals.
@@ -51,8 +44,13 @@ fn half_breadth_at(table: &[u64], p: Particulars, i: usize, j: usize) -> u64
     table[i * (p.m + 1) + j]
 }
 
-// What waterline j contributes, in one sweep that tries each half-breadth as it reads it.
-fn waterline_sums(table: &[u64], u: &[u64; MOST_STATIONS], p: Particulars, j: usize) -> Gathered
+// What waterline j contributes, in one sweep that tries each half-breadth as it reads it; nothing where one is out of range.
+fn waterline_sums(
+    table: &[u64],
+    u: &[u64; MOST_STATIONS],
+    p: Particulars,
+    j: usize,
+) -> Option<Waterline>
     requires { (Given table.now p u.now) × (j ≤ p.m) }
     ensures { GatheredOf table.now p j result }
 {
@@ -63,8 +61,8 @@ fn waterline_sums(table: &[u64], u: &[u64; MOST_STATIONS], p: Particulars, j: us
     let mut i: usize = 0;
     while i <= n {
         let y = half_breadth_at(table, p, i, j);
-        if !ranges::whole_in_range(ranges::HALF_BREADTH, y) {
-            return Gathered::Outside;
+        if !y.is_within(ranges::HALF_BREADTH) {
+            return None;
         }
         let uy = u[i] * y;
         q += uy;
@@ -72,7 +70,7 @@ fn waterline_sums(table: &[u64], u: &[u64; MOST_STATIONS], p: Particulars, j: us
         c += uy * (y * y);
         i += 1;
     }
-    Gathered::Whole(Waterline { q, x, c })
+    Some(Waterline { q, x, c })
 }
 
 // The five sums of the row of waterline k, from what is kept of the waterlines 0..k.
@@ -121,8 +119,8 @@ fn sums_of_rows(
     sums
 }
 
-// The five sums of every row of a complete hull, each waterline swept once; or that a half-breadth is out of range.
-pub(crate) fn hull_sums(table: &[u64], p: Particulars) -> HullSums
+// The five sums of every row of a complete hull, each waterline swept once; none where a half-breadth is out of range.
+pub(crate) fn hull_sums(table: &[u64], p: Particulars) -> Option<[Sums; MOST_ROWS]>
     requires { Complete table.now p }
     ensures { TriedSums table.now p result }
 {
@@ -133,19 +131,11 @@ pub(crate) fn hull_sums(table: &[u64], p: Particulars) -> HullSums
     let mut c = [0u64; MOST_WATERLINES];
     let mut j: usize = 0;
     while j <= m {
-        match waterline_sums(table, &u, p, j) {
-            Gathered::Outside => return OUTSIDE,
-            Gathered::Whole(line) => {
-                q[j] = line.q;
-                x[j] = line.x;
-                c[j] = line.c;
-            }
-        }
+        let line = waterline_sums(table, &u, p, j)?;
+        q[j] = line.q;
+        x[j] = line.x;
+        c[j] = line.c;
         j += 1;
     }
-    let sums = sums_of_rows(&q, &x, &c, m);
-    HullSums {
-        in_range: true,
-        sums,
-    }
+    Some(sums_of_rows(&q, &x, &c, m))
 }

@@ -1,5 +1,6 @@
 -- The totals of a table of items, by the tests of its call.
 --     is_wrong_size, bad_item         its two refusals
+--     items_few                        a table of the right size has no more numbers than there is room for
 --     items_fitting                    a table of the right size with all numbers in range
 --     items_most                   the most that the items of such a table weigh, and their vertical moment
 --     totals_are                   what its items bring, added up, is the paper's totals
@@ -24,21 +25,26 @@ use Rattle.ranges.specs.Refusals.{out_of_range, wrong_size, place_of_items, item
 use Rattle.ranges.specs.Sizes.{whole_records, item_width, most_items}
 use Rattle.ranges.proofs.Facts.{records_are}
 use Rattle.ranges.proofs.Numbered.{numbered}
-use Rattle.ranges.proofs.Outcomes.{refused_not, refusal_same}
+use Rattle.ranges.proofs.Outcomes.{answer_known}
 use Rattle.ranges.proofs.Outside.{outside_le}
 use Rattle.ranges.proofs.Records.{parts_inside}
 use Rattle.loading.specs.Items.{totals_of_items, item_totals}
 use Rattle.loading.specs.Load.{weight, vertical_moment_of}
 use Rattle.loading.specs.Private.Aboard.{nothing, ◌with◌, of_item, of_tank, altogether, most_in_items, ItemsFit}
 use Rattle.loading.specs.Private.Steady.{totals_with}
-use Rattle.loading.specs.Promise.{paper_totals}
+use Rattle.ranges.specs.Reasons.{paper}
+use Rattle.std.specs.Prelude.{Result}
 use Rattle.loading.specs.Records.{items_of, tanks_of, load_of}
 use Rattle.loading.specs.Total.{total}
 use Rattle.loading.specs.declared.Aboard.{Aboard}
-use Rattle.loading.specs.declared.Totalled.{Totalled}
-use Rattle.loading.specs.declared.Totalled.TheVariants.{Total, Refused}
+use Rattle.loading.specs.declared.Totals.{Totals}
+use Rattle.ranges.specs.declared.refusal.Refusal.{Refusal}
 use Rattle.loading.proofs.Moments.{weight_is, longitudinal_is, vertical_is, transverse_is}
 use Rattle.loading.proofs.Stowage.{field_most}
+
+-- no more numbers than there is room for
+pub items_few : (items : List ℤ) → whole_records item_width most_items (length items) ≡ true → length items ≤ item_width * most_items
+items_few items w = let i = records_are item_width most_items (length items) w in omega arith
 
 pub items_fitting : (items : List ℤ) → whole_records item_width most_items (length items) ≡ true → first_outside item items ≡ length items → ItemsFit items
 items_fitting items w e =
@@ -108,8 +114,5 @@ pub totals_numbered : (items : List ℤ) → Numbered (item_totals items)
 unfolding item_totals
 totals_numbered items = search numbered
 
-pub paper_totals_injective : (a b : Totalled) → paper_totals a ≡ paper_totals b → a ≡ b
-paper_totals_injective (Total s) (Total t) e = cc
-paper_totals_injective (Total s) (Refused r) e = refused_not (sym e)
-paper_totals_injective (Refused r) (Total s) e = refused_not e
-paper_totals_injective (Refused r) (Refused s) e = ap Refused (refusal_same r s e)
+pub paper_totals_injective : (a b : Result Totals Refusal) → paper a ≡ paper b → a ≡ b
+paper_totals_injective = answer_known

@@ -15,6 +15,7 @@ use borrow.Author.Tests.{lt-ltb, le-ltb, leb-true}
 use lib.Dec.{leb, ltb}
 use lib.IntN.{ℤ}
 use lib.ListN.{length}
+use Rattle.std.specs.Prelude.{Ok, Err}
 use Rattle.arithmetic.specs.Choice.{when◌then◌else◌}
 use Rattle.arithmetic.proofs.Choice.{chosen}
 use Rattle.arithmetic.proofs.Tests.{both}
@@ -23,13 +24,13 @@ use Rattle.ranges.specs.Fields.{item}
 use Rattle.ranges.specs.Outcome.{Outcome, answered, refused, and_then}
 use Rattle.ranges.specs.Outside.{first_outside}
 use Rattle.ranges.specs.Refusals.{out_of_range, wrong_size, rows_not_usable, too_light, too_heavy, place_of_items, item_table, tank_table, row_table}
-use Rattle.ranges.specs.declared.Refusal.{Refusal}
+use Rattle.ranges.specs.Reasons.{number_of}
+use Rattle.ranges.specs.declared.refusal.Refusal.{Refusal}
 use Rattle.ranges.proofs.Facts.{records_are}
 use Rattle.ranges.proofs.Outcomes.{refused_not, answered_then}
 use Rattle.ranges.proofs.Outside.{outside_le}
-use Rattle.loading.specs.Private.Aboard as Aboard
 use Rattle.loading.specs.Private.Aboard.{◌with◌, of_item, of_tank, altogether, aboard_of, tanks_aboard, TanksTried}
-use Rattle.loading.specs.Private.Afloat.{Floats, RowsWhole, RowsTried, Within}
+use Rattle.loading.specs.Private.Afloat.{Floats, RowsWhole, Within}
 use Rattle.loading.specs.Condition.{tanks_from, floats, rows_allowed, condition_by}
 use Rattle.ranges.specs.Sizes.{whole_records, item_width, tank_width, row_width, most_items, most_tanks, least_rows, most_rows}
 use Rattle.loading.specs.Load.{Load, weight}
@@ -42,7 +43,6 @@ use Rattle.loading.specs.declared.Aboard.{Aboard}
 use Rattle.loading.specs.declared.Condition.{Condition}
 use Rattle.loading.specs.declared.Reading.{Reading}
 use Rattle.loading.specs.declared.floating.Floating.{Floating}
-use Rattle.loading.specs.declared.tanks.Trial.{Trial}
 use Rattle.loading.proofs.Itemised.{items_fitting}
 use Rattle.loading.proofs.Moments.{weight_is, condition_is}
 use Rattle.loading.proofs.Tables.{last_row_of_table}
@@ -91,15 +91,15 @@ module _ (reading : Reading) (items tanks : List ℤ) (t : Table) where
   refused_first (answered a) b next n p e = refused_not (sym e)
   refused_first (refused m q) b next n p e = cc
 
-  pub after_refused : {r : Trial} {refusal : Refusal} → TanksTried tanks r → r ≡ Trial.Refused refusal → refused refusal.number refusal.place ≡ after_items reading items tanks t
+  pub after_refused : {refusal : Refusal} → TanksTried tanks (Err refusal) → refused (number_of refusal.reason) refusal.place ≡ after_items reading items tanks t
   unfolding after_items tanks_aboard
-  after_refused {r} {refusal} tried e =
-      sym (refused_first (tanks_from 0 tanks) _ (λ last. floats reading t (load_of items tanks)) refusal.number refusal.place (sym tried.is ∙ ap Aboard.tried e))
+  after_refused {refusal} tried =
+      sym (refused_first (tanks_from 0 tanks) _ (λ last. floats reading t (load_of items tanks)) (number_of refusal.reason) refusal.place (sym tried.is))
 
-  pub after_passed : {r : Trial} {a b : Aboard} → TanksTried tanks r → r ≡ Trial.Passed b → a ≡ altogether of_item (items_of items) → floats_with reading t (a with b) ≡ after_items reading items tanks t
+  pub after_passed : {a b : Aboard} → TanksTried tanks (Ok b) → a ≡ altogether of_item (items_of items) → floats_with reading t (a with b) ≡ after_items reading items tanks t
   unfolding after_items tanks_aboard and_then
-  after_passed {r} {a} {b} tried e f =
-      let trial = answered_then {o = tanks_from 0 tanks} (sym tried.is ∙ ap Aboard.tried e) in
+  after_passed {a} {b} tried f =
+      let trial = answered_then {o = tanks_from 0 tanks} (sym tried.is) in
       let same : altogether of_tank (tanks_of tanks) ≡ b = cc trial.2 in
       ap (λ c. floats_with reading t c) (ap₂ ◌with◌ f (sym same)) ∙ floats_is reading t (load_of items tanks) ∙ sym (rw trial.1)
 
@@ -135,18 +135,15 @@ module _ (items tanks : List ℤ) (rows : List ℕ) where
     unfolding condition_by after_items
     sizes_passed reading = simp (sized.items_whole, sized.tanks_whole, sized.rows_are_allowed, chosen)
 
-    pub bad_row : (reading : Reading) {bad : ℕ} → RowsTried rows (length rows / row_width) bad → bad < length rows / row_width → condition_by reading items tanks rows ≡ refused rows_not_usable bad
+    pub bad_row : (reading : Reading) {bad : ℕ} → refused rows_not_usable bad ≡ usable_up_to rows (length rows / row_width) → condition_by reading items tanks rows ≡ refused rows_not_usable bad
     unfolding and_then
-    bad_row reading {bad} tried h = sizes_passed reading ∙ rw (tried.is, lt-ltb bad (length rows / row_width) h) (simp chosen)
+    bad_row reading e = sizes_passed reading ∙ rw (← e)
 
     -- no row is bad
-    module _ {bad : ℕ} (tried : RowsTried rows (length rows / row_width) bad) (last : length rows / row_width ≤ bad) where
-      usable : usable_up_to rows (length rows / row_width) ≡ answered (length rows / row_width)
-      usable = tried.is ∙ simp (le-ltb bad (length rows / row_width) last, chosen)
-
+    module _ (usable : answered (length rows / row_width) ≡ usable_up_to rows (length rows / row_width)) where
       rows_passed : (reading : Reading) → condition_by reading items tanks rows ≡ (when ltb (first_outside item items) (length items) then refused out_of_range (place_of_items + first_outside item items) else after_items reading items tanks (hull rows))
       unfolding and_then
-      rows_passed reading = sizes_passed reading ∙ rw usable
+      rows_passed reading = sizes_passed reading ∙ rw (← usable)
 
       module _ {outside : ℕ} (o : outside ≡ first_outside item items) where
         pub bad_item : (reading : Reading) → outside < length items → condition_by reading items tanks rows ≡ refused out_of_range (place_of_items + outside)
@@ -165,5 +162,5 @@ module _ (items tanks : List ℤ) (rows : List ℕ) where
               record {
                 items_fitting = items_fitting items sized.items_whole all_inside;
                 tanks_whole = record { whole = k.0; few = omega arith };
-                rows_usable = record { size = rows_whole; usable = usable };
+                rows_usable = record { size = rows_whole; usable = sym usable };
               }

@@ -1,32 +1,36 @@
 -- What a table's ranges say of a record in it.
 --     field_most        a number of a table that has none outside is no further from 0 than its range's greatest
 --     item_stowed, item_stowed_in      an item, and as its numbers are read
---     eight_at, part_eight              the eight numbers of a tank, and as a part of the table
+--     eight_at, part_eight              the eight numbers of a tank, and as a part of the table;
+--     some_outside, none_outside        what the code answers of them
 --     tank_fits                        a tank with no number outside
 --     tank_outside, tank_overfull, tank_passed      what the trial of a tank comes to,
 --     trial_refused, trial_passed, trial_end        and of all
 -- Assumes nothing.
-use mathlib.Core.Path.{◌≡◌, ap, subst}
+use mathlib.Core.Path.{◌≡◌, sym, ap, subst, ◌∙◌}
 use mathlib.Core.List.{List, [], ◌∷◌}
-use Prim.Native.Nat.{ℕ, ◌+◌, ◌-◌, ◌%◌, ◌≤◌, ◌<◌}
+use Prim.Native.Nat.{ℕ, ◌+◌, ◌*◌, ◌-◌, ◌%◌, ◌≤◌, ◌<◌}
 use native.Mathlib.Nat.{add_assoc, add-zero}
 use native.Mathlib.Omega.{arith}
 use borrow.Author.Tests.{lt-ltb, le-ltb}
 use lib.IntN.{ℤ, pos}
 use lib.ListN.{length, get_or, take, drop, drop_of_length-le}
+use Rattle.std.specs.Prelude.{Ok, Err, Some, None}
 use Rattle.arithmetic.proofs.Choice.{chosen}
 use Rattle.ranges.specs.Fields.{Range, ◌to◌, most, range_of, item, tank}
 use Rattle.ranges.specs.Outcome.{answered, refused, and_then}
 use Rattle.ranges.specs.Outside.{first_outside}
+use Rattle.ranges.specs.Private.Bounds.{place_in}
+use Rattle.ranges.proofs.Outside.{some_place, none_place}
+use Rattle.ranges.specs.Reasons.{number_of}
+use Rattle.ranges.specs.declared.refusal.Refusal.{Refusal}
 use Rattle.ranges.specs.Refusals.{out_of_range, contents_above_capacity, place_of_tanks}
 use Rattle.ranges.proofs.Facts.{within_size, all_within}
-use Rattle.ranges.specs.Sizes.{item_width, tank_width}
-use Rattle.loading.specs.Private.Aboard.{number_at, size_at, item_at, tank_at, StowedItem, StowedIn, ItemsFit, TankFits, altogether, of_tank, tanks_aboard, TrialReach, TanksTried}
+use Rattle.ranges.specs.Sizes.{item_width, tank_width, most_tanks}
+use Rattle.loading.specs.Private.Aboard.{number_at, size_at, item_at, tank_at, StowedItem, StowedIn, ItemsFit, TankFits, altogether, of_tank, Reach, most_in_tanks, most_surface, tanks_aboard, TanksTried}
 use Rattle.loading.specs.Condition.{tanks_from}
 use Rattle.loading.specs.Records.{tanks_of}
 use Rattle.loading.specs.declared.Aboard.{Aboard}
-use Rattle.loading.specs.declared.tanks.Trial.{Trial}
-use Rattle.loading.specs.declared.tanks.Trial.TheVariants.{Passed, Refused}
 use Rattle.loading.proofs.Walks.{drop_eight}
 
 module _ (section : List Range) (numbers : List ℤ) (inside : length numbers ≤ first_outside section numbers) where
@@ -64,6 +68,16 @@ module _ (table : List ℤ) (i : ℕ) (there : i + tank_width ≤ length table) 
       let e : i + tank_width - i ≡ tank_width = omega arith in
       rw (e, drop_eight table (pos 0) i there)
 
+  -- what the code answers of them
+  told : place_in (length (take (i + tank_width - i) (drop i table))) (first_outside tank (take (i + tank_width - i) (drop i table))) ≡ place_in tank_width (first_outside tank (eight_at table i))
+  told = ap (λ numbers. place_in (length numbers) (first_outside tank numbers)) part_eight
+
+  pub some_outside : {place : ℕ} → Some place ≡ place_in (length (take (i + tank_width - i) (drop i table))) (first_outside tank (take (i + tank_width - i) (drop i table))) → (place ≡ first_outside tank (eight_at table i)) × (first_outside tank (eight_at table i) < tank_width)
+  some_outside e = some_place (sym (e ∙ told))
+
+  pub none_outside : None ≡ place_in (length (take (i + tank_width - i) (drop i table))) (first_outside tank (take (i + tank_width - i) (drop i table))) → tank_width ≤ first_outside tank (eight_at table i)
+  none_outside e = none_place (sym (e ∙ told))
+
   pub tank_outside : first_outside tank (eight_at table i) < tank_width → tanks_from i (drop i table) ≡ refused out_of_range (place_of_tanks + (i + first_outside tank (eight_at table i)))
   unfolding tanks_from
   tank_outside h = rw (drop_eight table (pos 0) i there, lt-ltb _ _ h) (simp chosen)
@@ -88,11 +102,11 @@ module _ (table : List ℤ) (i : ℕ) (there : i + tank_width ≤ length table) 
 
 -- ---- the trial of all tanks
 module _ (table : List ℤ) where
-  pub trial_refused : {number place : ℕ} {r : Trial} → tanks_from 0 table ≡ refused number place → r ≡ Refused (record { number = number; place = place }) → TanksTried table r
+  pub trial_refused : (refusal : Refusal) → tanks_from 0 table ≡ refused (number_of refusal.reason) refusal.place → TanksTried table (Err refusal)
   unfolding tanks_aboard and_then
-  trial_refused e f = rw f (record { is = rw e; reach = tt })
+  trial_refused refusal e = record { is = rw e; reach = tt }
 
-  pub trial_passed : {last : ℕ} {all : Aboard} → tanks_from 0 table ≡ answered last → all ≡ altogether of_tank (tanks_of table) → TrialReach (Passed all) → TanksTried table (Passed all)
+  pub trial_passed : {last : ℕ} {all : Aboard} → tanks_from 0 table ≡ answered last → all ≡ altogether of_tank (tanks_of table) → Reach most_in_tanks (most_tanks * most_surface) all → TanksTried table (Ok all)
   unfolding tanks_aboard and_then
   trial_passed e f r = record { is = rw e (ap answered f); reach = r }
 

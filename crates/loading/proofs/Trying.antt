@@ -2,21 +2,22 @@
 --     spaced_odd, -outside, -by                    the distance between waterlines
 --     rises_first, rises_by                        the displacement
 --     unusable_range, -spacing, -rise, usable_by   the row
---     rows_none, rows_on, tried_bad, tried_all     the table
+--     rows_none, rows_on, rows_bad                 the table
 -- Assumes nothing.
 use mathlib.Core.Path.{◌≡◌, refl, sym, ap, ap₂, ◌∙◌}
 use mathlib.Core.Bool.{Bool, true, false, ◌||◌}
 use mathlib.Core.List.{List, map}
 use Prim.Native.Nat.{ℕ, zero, suc, ◌+◌, ◌*◌, ◌-◌, ◌/◌, ◌≤◌, ◌<◌}
-use native.Mathlib.Nat.{le_refl}
 use native.Mathlib.Numerals.{add-one}
 use native.Mathlib.Decide.{dec_lt}
 use native.Mathlib.Omega.{arith}
-use borrow.Author.Tests.{eq-eqb, ne_eqb, lt-ltb, le-ltb}
+use borrow.Author.Tests.{eq-eqb, ne_eqb, ltb-true, ltb-false}
 use lib.Dec.{ltb, eqb}
 use lib.IntN.{pos}
 use lib.ListN.{length}
+use Rattle.std.specs.Prelude.{Option, is_some}
 use Rattle.arithmetic.proofs.Choice.{chosen}
+use Rattle.arithmetic.proofs.Tests.{by_test}
 use Rattle.hydrostatics.specs.Row.{numbers_of, waterline_of}
 use Rattle.hydrostatics.specs.Usable.{row_in, in_range, spaced, rises, metacentre_fits, usable_row, usable_up_to}
 use Rattle.hydrostatics.specs.declared.Row.{Row}
@@ -24,11 +25,12 @@ use Rattle.ranges.specs.Fields.{within, most, range_of, row_ranges}
 use Rattle.ranges.specs.Private.InRange.{row_range}
 use Rattle.ranges.specs.Outcome.{answered, refused, and_then}
 use Rattle.ranges.specs.Outside.{first_outside}
+use Rattle.ranges.specs.Private.Bounds.{place_in}
+use Rattle.ranges.proofs.Outside.{outside_le}
 use Rattle.ranges.specs.Refusals.{rows_not_usable}
 use Rattle.ranges.specs.Sizes.{row_width}
 use Rattle.hydrostatics.proofs.InRows.{row_in_range}
 use Rattle.hydrostatics.proofs.Reading.{seven_are}
-use Rattle.loading.specs.Private.Afloat.{RowsTried}
 
 -- ---- the distance between waterlines, where `first` is row 0's draft
 module _ (rows : List ℕ) (r : ℕ) {first : ℕ} (e : first ≡ (row_in rows 0).draft) where
@@ -64,14 +66,28 @@ module _ (rows : List ℕ) (r : ℕ) (whole : row_width * r + row_width ≤ leng
   unfolding in_range
   range_is = ap (λ l. eqb (first_outside row_ranges (map pos l)) row_width) (seven_are rows r whole ∙ ap numbers_of (sym here))
 
-  module _ {outside : ℕ} (o : outside ≡ first_outside row_ranges (map pos (numbers_of row))) where
-    pub unusable_range : (outside ≡ row_width → ⊥) → usable_row rows r ≡ false
-    unfolding usable_row
-    unusable_range n = rw (range_is, ← o, ne_eqb outside row_width n)
+  abbrev outside : ℕ
+  outside = first_outside row_ranges (map pos (numbers_of row))
 
-    module _ (inside-all : outside ≡ row_width) where
+  module _ {found : Option ℕ} (o : found ≡ place_in row_width outside) where
+    some_is : is_some found ≡ ltb outside row_width
+    unfolding place_in
+    some_is = ap is_some o ∙ by_test (ltb outside row_width) (λ t. simp (t, chosen)) (λ t. simp (t, chosen))
+
+    pub unusable_range : is_some found ≡ true → usable_row rows r ≡ false
+    unfolding usable_row
+    unusable_range n =
+        let low : outside < row_width = ltb-true outside row_width (sym some_is ∙ n) in
+        rw (range_is, ne_eqb outside row_width (λ e. omega arith))
+
+    module _ (n : is_some found ≡ false) where
+      all_inside : outside ≡ row_width
+      all_inside =
+          let high : row_width ≤ outside = ltb-false outside row_width (sym some_is ∙ n) in
+          omega (arith, outside_le row_ranges (map pos (numbers_of row)))
+
       ranged : in_range rows r ≡ true
-      ranged = range_is ∙ ap (λ n. eqb n row_width) (sym o) ∙ eq-eqb outside row_width inside-all
+      ranged = range_is ∙ eq-eqb outside row_width all_inside
 
       pub unusable_spacing : spaced rows r ≡ false → usable_row rows r ≡ false
       unfolding usable_row
@@ -87,7 +103,7 @@ module _ (rows : List ℕ) (r : ℕ) (whole : row_width * r + row_width ≤ leng
 
       -- KB and BM are in their ranges, so that their sum fits
       pub heights_most : (row.kb ≤ most (row_range 3)) × (row.bm ≤ most (row_range 4))
-      heights_most = let facts = row_in_range row (sym o ∙ inside-all) in (facts.kb.1, facts.bm.1)
+      heights_most = let facts = row_in_range row all_inside in (facts.kb.1, facts.bm.1)
 
 -- ---- the table
 module _ (rows : List ℕ) where
@@ -100,7 +116,7 @@ module _ (rows : List ℕ) where
   rows_on r e u = rw (add-one, e, u) (simp chosen)
 
   -- a refusal is passed on to the end
-  rows_bad : (r count : ℕ) → r < count → usable_up_to rows r ≡ answered r → usable_row rows r ≡ false → usable_up_to rows count ≡ refused rows_not_usable r
+  pub rows_bad : (r count : ℕ) → r < count → usable_up_to rows r ≡ answered r → usable_row rows r ≡ false → usable_up_to rows count ≡ refused rows_not_usable r
   unfolding usable_up_to and_then
   rows_bad r zero h e u = absurd (omega arith)
   rows_bad r (suc count) h e u = by_order (λ m. rows_bad r count m e u) (dec_lt r count)
@@ -108,9 +124,3 @@ module _ (rows : List ℕ) where
       by_order : (r < count → usable_up_to rows count ≡ refused rows_not_usable r) → Dec (r < count) → usable_up_to rows (suc count) ≡ refused rows_not_usable r
       by_order f (yes m) = rw (f m)
       by_order f (no m) = let k : count ≡ r = omega arith in rw (k, e, u) (simp chosen)
-
-  pub tried_bad : (count r : ℕ) → r < count → usable_up_to rows r ≡ answered r → usable_row rows r ≡ false → RowsTried rows count r
-  tried_bad count r h e u = record { is = rows_bad r count h e u ∙ sym (simp (lt-ltb r count h, chosen)) }
-
-  pub tried_all : (count r : ℕ) → r ≡ count → usable_up_to rows r ≡ answered r → RowsTried rows count r
-  tried_all count r k e = rw (← k) (record { is = e ∙ sym (simp (le-ltb r r (le_refl r), chosen)) })

@@ -6,13 +6,13 @@ ghost use Rattle.loading.specs.Private.Aboard.{Bearable};
 ghost use Rattle.loading.specs.Private.Afloat.{RowsUsable};
 ghost use Rattle.loading.specs.Items.{item_totals};
 ghost use Rattle.loading.specs.Paper.{default_reading};
-ghost use Rattle.loading.specs.Promise.{paper, paper_totals, MakesCondition};
+ghost use Rattle.loading.specs.Promise.{MakesCondition};
 ghost use Rattle.loading.specs.Private.Steady.{Steady, Loadable, condition_with, totals_with, floats_with, after_items};
 ghost use Rattle.loading.specs.Table.{table_of};
 ghost use Rattle.loading.specs.Condition.{rows_allowed};
+ghost use Rattle.ranges.specs.Reasons.{paper};
 
-use ranges::Refusal;
-use tanks::Trial;
+use ranges::{Reason, Record, Refusal};
 
 mod floating;
 mod items;
@@ -23,7 +23,7 @@ mod usable;
 mod weights;
 
 // How the vessel lies.
-#[derive(Clone, Copy)]
+#[derive(Clone, Copy, Debug, PartialEq)]
 pub enum Heel {
     Unstable,
     Upright,
@@ -33,7 +33,7 @@ pub enum Heel {
 }
 
 // How KM is read where the weight lies strictly between two rows. At a row's own weight that row's KM stands.
-#[derive(Clone, Copy)]
+#[derive(Clone, Copy, Debug, PartialEq, Eq)]
 pub enum Reading {
     // The lesser KM of the two.
     Lesser,
@@ -47,7 +47,7 @@ impl Reading {
 }
 
 // A loading condition: kg, mm and kg·mm.
-#[derive(Clone, Copy)]
+#[derive(Clone, Copy, Debug, PartialEq)]
 pub struct Condition {
     pub weight: u64,
     pub draft: u64,
@@ -94,15 +94,8 @@ impl Condition {
     }
 }
 
-// What a condition's call answers.
-#[derive(Clone, Copy)]
-pub enum Answer {
-    Laden(Condition),
-    Refused(Refusal),
-}
-
 // The weight, kg, and the three moments, kg·mm.
-#[derive(Clone, Copy)]
+#[derive(Clone, Copy, Debug, PartialEq, Eq)]
 pub struct Totals {
     pub weight: u64,
     pub longitudinal: u64,
@@ -110,15 +103,8 @@ pub struct Totals {
     pub transverse: i64,
 }
 
-// What the call for the totals of items answers.
-#[derive(Clone, Copy)]
-pub enum Totalled {
-    Total(Totals),
-    Refused(Refusal),
-}
-
 // What is aboard, added up: kg, kg·mm; the transverse moment by its two sides.
-#[derive(Clone, Copy)]
+#[derive(Clone, Copy, Debug, PartialEq, Eq)]
 struct Aboard {
     weight: u64,
     longitudinal: u64,
@@ -131,12 +117,6 @@ struct Aboard {
 // A condition needs two rows, to lie between them.
 const LEAST_ROWS: usize = 2;
 
-fn refused(number: u64, place: usize) -> Answer
-    ensures { result ≡ Answer.Refused (record { number = number; place = place }) }
-{
-    Answer::Refused(Refusal { number, place })
-}
-
 // 2 to 19 whole rows.
 fn rows_allowed(count: usize) -> bool
     ensures { result ≡ rows_allowed count }
@@ -148,62 +128,67 @@ fn rows_allowed(count: usize) -> bool
 }
 
 // What is aboard against the rows: 11 below the first, 12 above the last, and else the condition.
-fn laden(reading: Reading, all: Aboard, rows: &[u64], count: usize) -> Answer
+fn laden(reading: Reading, all: Aboard, rows: &[u64], count: usize) -> Result<Condition, Refusal>
     requires { Bearable all × RowsUsable rows.now count }
     ensures { paper result ≡ floats_with reading (table_of rows.now count) all }
 {
     let weight = all.weight;
     if weight < rows::displacement_at(rows, 0) {
-        return refused(Refusal::TOO_LIGHT, 0);
+        return Err(Reason::TooLight.at(0));
     }
     if rows::displacement_at(rows, count - 1) < weight {
-        return refused(Refusal::TOO_HEAVY, 0);
+        return Err(Reason::TooHeavy.at(0));
     }
     let floating = floating::afloat(reading, rows, count, weight);
-    Answer::Laden(Condition::new(all, floating.draft, floating.km))
+    Ok(Condition::new(all, floating.draft, floating.km))
 }
 
 // What items and tanks bring together, against the rows; each tank is tried before.
-fn loaded(reading: Reading, items: &[i64], tanks: &[i64], rows: &[u64], count: usize) -> Answer
+fn loaded(
+    reading: Reading,
+    items: &[i64],
+    tanks: &[i64],
+    rows: &[u64],
+    count: usize,
+) -> Result<Condition, Refusal>
     requires { Loadable items.now tanks.now rows.now count }
     ensures { paper result ≡ after_items reading items.now tanks.now (table_of rows.now count) }
 {
-    match tanks::tanks_aboard(tanks) {
-        Trial::Refused(refusal) => Answer::Refused(refusal),
-        Trial::Passed(in_tanks) => {
-            let all = weights::together(items::items_aboard(items), in_tanks);
-            laden(reading, all, rows, count)
-        }
-    }
+    let in_tanks = tanks::tanks_aboard(tanks)?;
+    let all = weights::together(items::items_aboard(items), in_tanks);
+    laden(reading, all, rows, count)
 }
 
 // The condition of items and tanks over the rows of a hull, by a reading of KM, or the first refusal in the paper's order.
-pub fn condition_by(reading: Reading, items: &[i64], tanks: &[i64], rows: &[u64]) -> Answer
+pub fn condition_by(
+    reading: Reading,
+    items: &[i64],
+    tanks: &[i64],
+    rows: &[u64],
+) -> Result<Condition, Refusal>
     ensures { MakesCondition reading Condition.LEAST_GM Condition.HEEL_LIMIT items.now tanks.now rows.now result }
 {
     if !ranges::items_fit(items.len()) {
-        return refused(Refusal::WRONG_SIZE, Refusal::ITEM_TABLE);
+        return Err(Reason::WrongSize.at(Refusal::ITEM_TABLE));
     }
     if !ranges::tanks_fit(tanks.len()) {
-        return refused(Refusal::WRONG_SIZE, Refusal::TANK_TABLE);
+        return Err(Reason::WrongSize.at(Refusal::TANK_TABLE));
     }
     if !rows_allowed(rows.len()) {
-        return refused(Refusal::WRONG_SIZE, Refusal::ROW_TABLE);
+        return Err(Reason::WrongSize.at(Refusal::ROW_TABLE));
     }
     let count = rows.len() / hydrostatics::ROW_WIDTH;
-    let bad_row = usable::unusable_row(rows, count);
-    if bad_row < count {
-        return refused(Refusal::ROWS_NOT_USABLE, bad_row);
+    if let Some(place) = usable::unusable_row(rows, count) {
+        return Err(Reason::RowsNotUsable.at(place));
     }
-    let bad_item = ranges::item_outside(items);
-    if bad_item < items.len() {
-        return refused(Refusal::OUT_OF_RANGE, Refusal::ITEMS_AT + bad_item);
+    if let Some(place) = ranges::first_outside(items, Record::Item) {
+        return Err(Reason::OutOfRange.at(Refusal::ITEMS_AT + place));
     }
     loaded(reading, items, tanks, rows, count)
 }
 
 // The same by the default reading.
-pub fn condition_of(items: &[i64], tanks: &[i64], rows: &[u64]) -> Answer
+pub fn condition_of(items: &[i64], tanks: &[i64], rows: &[u64]) -> Result<Condition, Refusal>
     ensures { MakesCondition default_reading Condition.LEAST_GM Condition.HEEL_LIMIT items.now tanks.now rows.now result }
 {
     condition_by(Reading::DEFAULT, items, tanks, rows)
@@ -223,21 +208,14 @@ fn totals_of(all: Aboard) -> Totals
 }
 
 // The weight and moments of the items of a table, or the first refusal in the paper's order.
-pub fn item_totals(items: &[i64]) -> Totalled
-    ensures { paper_totals result ≡ item_totals items.now }
+pub fn item_totals(items: &[i64]) -> Result<Totals, Refusal>
+    ensures { paper result ≡ item_totals items.now }
 {
     if !ranges::items_fit(items.len()) {
-        return Totalled::Refused(Refusal {
-            number: Refusal::WRONG_SIZE,
-            place: Refusal::ITEM_TABLE,
-        });
+        return Err(Reason::WrongSize.at(Refusal::ITEM_TABLE));
     }
-    let bad_item = ranges::item_outside(items);
-    if bad_item < items.len() {
-        return Totalled::Refused(Refusal {
-            number: Refusal::OUT_OF_RANGE,
-            place: Refusal::ITEMS_AT + bad_item,
-        });
+    if let Some(place) = ranges::first_outside(items, Record::Item) {
+        return Err(Reason::OutOfRange.at(Refusal::ITEMS_AT + place));
     }
-    Totalled::Total(totals_of(items::items_aboard(items)))
+    Ok(totals_of(items::items_aboard(items)))
 }

@@ -4,18 +4,10 @@ ghost use Rattle.arithmetic.specs.Rounding.{rounded_up};
 ghost use Rattle.loading.specs.Private.Aboard.{RoomOf, TankFits, TanksWhole, TanksTried, tank_at, of_tank};
 ghost use Rattle.loading.specs.Paper.{rectangle};
 ghost use Rattle.loading.specs.Rules.{surface_of};
-ghost use Rattle.ranges.specs.Sizes.{tank_width, room_for_tanks};
-ghost use Rattle.ranges.specs.Refusals.{place_of_tanks};
+ghost use Rattle.ranges.specs.Sizes.{tank_width};
 
 use crate::{Aboard, weights};
-use ranges::Refusal;
-
-// All tanks of a table together, or the first refusal.
-#[derive(Clone, Copy)]
-pub(crate) enum Trial {
-    Passed(Aboard),
-    Refused(Refusal),
-}
+use ranges::{Reason, Record, Refusal};
 
 // 12,000,000,000 parts of a surface, mm⁴ · kg/m³, are one kg·mm.
 const PARTS: u64 = 12_000_000_000;
@@ -61,19 +53,8 @@ fn tank_in(tanks: &[i64], i: usize) -> Aboard
     weights::weight_in(tanks, i, i + 2, surface_in(tanks, i))
 }
 
-// A refusal of a number of the tanks' table.
-fn refused(number: u64, place: usize) -> Trial
-    requires { place ≤ room_for_tanks }
-    ensures { result ≡ Trial.Refused (record { number = number; place = place_of_tanks + place }) }
-{
-    Trial::Refused(Refusal {
-        number,
-        place: Refusal::TANKS_AT + place,
-    })
-}
-
 // All tanks of a table together, or the first refusal: of each tank its eight numbers for 4, then 13.
-pub(crate) fn tanks_aboard(tanks: &[i64]) -> Trial
+pub(crate) fn tanks_aboard(tanks: &[i64]) -> Result<Aboard, Refusal>
     requires { TanksWhole tanks.now }
     ensures { TanksTried tanks.now result }
 {
@@ -81,15 +62,14 @@ pub(crate) fn tanks_aboard(tanks: &[i64]) -> Trial
     let mut i = 0;
     while i < tanks.len() {
         let end = i + ranges::TANK_WIDTH;
-        let outside = ranges::tank_outside(&tanks[i..end]);
-        if outside < ranges::TANK_WIDTH {
-            return refused(Refusal::OUT_OF_RANGE, i + outside);
+        if let Some(place) = ranges::first_outside(&tanks[i..end], Record::Tank) {
+            return Err(Reason::OutOfRange.at(Refusal::TANKS_AT + i + place));
         }
         if arithmetic::size_at(tanks, i + 1) < arithmetic::size_at(tanks, i) {
-            return refused(Refusal::CONTENTS_ABOVE_CAPACITY, i);
+            return Err(Reason::ContentsAboveCapacity.at(Refusal::TANKS_AT + i));
         }
         all = weights::together(all, tank_in(tanks, i));
         i = end;
     }
-    Trial::Passed(all)
+    Ok(all)
 }

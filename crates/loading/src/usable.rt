@@ -1,15 +1,13 @@
 // Whether a table of rows is usable, row by row.
 ghost use Rattle.std.specs.Prelude.{◌≡◌, ◌||◌, ◌+◌, ◌*◌, ◌<◌, ◌≤◌, eqb, length};
-ghost use Rattle.hydrostatics.specs.Usable.{spaced, rises, usable_row};
-ghost use Rattle.loading.specs.Private.Afloat.{RowsWhole, RowsTried};
+ghost use Rattle.hydrostatics.specs.Usable.{spaced, rises, usable_row, usable_up_to};
+ghost use Rattle.loading.specs.Private.Afloat.{RowsWhole, usable_but_for};
 ghost use Rattle.ranges.specs.Fields.{most};
 ghost use Rattle.ranges.specs.Private.InRange.{row_range};
 ghost use Rattle.ranges.specs.Sizes.{most_rows, row_width};
 
 use crate::rows;
-
-// The field of the distance between waterlines.
-const SPACING: usize = ranges::PARTICULARS + 3;
+use ranges::Number;
 
 // Row r has draft (r + 2)·g, with g half of row 0's draft, whole and in the range of a distance between waterlines.
 fn is_spaced(rows: &[u64], r: usize) -> bool
@@ -21,7 +19,7 @@ fn is_spaced(rows: &[u64], r: usize) -> bool
     if 2 * spacing != first {
         return false;
     }
-    if !ranges::whole_in_range(SPACING, spacing) {
+    if !spacing.is_within(ranges::WATERLINE_SPACING) {
         return false;
     }
     rows::number_at(rows, hydrostatics::ROW_WIDTH * r) == (r as u64 + 2) * spacing
@@ -55,7 +53,7 @@ fn is_usable(rows: &[u64], r: usize) -> bool
     ensures { result ≡ usable_row rows.now r }
 {
     let row = rows::row_at(rows, r);
-    if hydrostatics::row_outside(row) != hydrostatics::ROW_WIDTH {
+    if hydrostatics::row_outside(row).is_some() {
         return false;
     }
     if !is_spaced(rows, r) {
@@ -67,17 +65,17 @@ fn is_usable(rows: &[u64], r: usize) -> bool
     metacentre_fits(row.kb, row.bm, row.km)
 }
 
-// The first row that is not usable, or the count.
-pub(crate) fn unusable_row(rows: &[u64], count: usize) -> usize
+// The first row that is not usable.
+pub(crate) fn unusable_row(rows: &[u64], count: usize) -> Option<usize>
     requires { RowsWhole rows.now count }
-    ensures { RowsTried rows.now count result }
+    ensures { usable_but_for count result ≡ usable_up_to rows.now count }
 {
     let mut r = 0;
     while r < count {
         if !is_usable(rows, r) {
-            return r;
+            return Some(r);
         }
         r += 1;
     }
-    r
+    None
 }

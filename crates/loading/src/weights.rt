@@ -4,6 +4,7 @@ ghost use Rattle.loading.specs.Private.Aboard.{nothing, Stowed, StowedIn, Bearab
 ghost use Rattle.ranges.specs.Fields.{most, range_of};
 
 use crate::Aboard;
+use ranges::Sides;
 
 // Nothing aboard.
 pub(crate) fn none() -> Aboard
@@ -24,7 +25,7 @@ pub(crate) fn weight_at(kg: u64, x: u64, y: i64, z: u64, surface: u64) -> Aboard
     requires { Stowed (most (range_of 10)) kg x y z }
     ensures { result ≡ weight_at kg x y z surface }
 {
-    let sides = ranges::sides_of(y);
+    let sides = Sides::from(y);
     let port = sides.port;
     let starboard = sides.starboard;
     Aboard {

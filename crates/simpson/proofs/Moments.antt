@@ -17,13 +17,14 @@ use borrow.Author.Tests.{ltb-false}
 use lib.Dec.{ltb}
 use lib.IntN.{ℤ, pos}
 use lib.ListN.{length, get_or}
+use Rattle.std.specs.Prelude.{Ok, Err}
 use Rattle.arithmetic.specs.Choice.{when◌then◌else◌}
 use Rattle.arithmetic.proofs.Ring.{pow1}
 use Rattle.arithmetic.proofs.Sums.{term_le_sum}
 use Rattle.simpson.specs.Multipliers.{multiplier}
 use Rattle.simpson.specs.Curve.{curve, curve_sum_of}
 use Rattle.simpson.specs.Cubic.{cubic, area}
-use Rattle.simpson.specs.declared.CurveSum.TheVariants.{Sum, TooShort, TooLarge}
+use Rattle.simpson.specs.declared.CurveError.TheVariants.{TooShort, TooLarge}
 use Rattle.simpson.proofs.ByPlace.{multiplier_ge}
 use Rattle.simpson.proofs.Exact.{curve_ℤ_of_cubic}
 use Rattle.arithmetic.proofs.Whole.{pos_injective, pos_pow}
@@ -67,22 +68,15 @@ ordinate_le n y i h l =
     le_trans (omega (arith, mul-le-mul_right (y i) (multiplier_ge n i h l))) (term_le_sum (n + 1) i (λ i. multiplier n i * y i) (omega arith))
 
 -- ---- the call's answer
--- no sum is another answer
-not_short : {X : Type 0} {s : ℕ} → Sum s ≡ TooShort → X
-not_short e = let z : ◌≡◌ {A = ℕ} 0 1 = cc e in absurd (omega arith)
-
-not_large : {X : Type 0} {s : ℕ} → Sum s ≡ TooLarge → X
-not_large e = let z : ◌≡◌ {A = ℕ} 0 1 = cc e in absurd (omega arith)
-
 -- what the two tests say where there is a sum
-sum_told : (short fits : Bool) (total : ℕ) {s : ℕ} → Sum s ≡ (when short then TooShort else when fits then Sum total else TooLarge) → (short ≡ false) × (s ≡ total)
+sum_told : (short fits : Bool) (total : ℕ) {s : ℕ} → Ok s ≡ (when short then Err TooShort else when fits then Ok total else Err TooLarge) → (short ≡ false) × (s ≡ total)
 unfolding when◌then◌else◌
-sum_told true fits total e = not_short e
-sum_told false true total e = (refl, cc e)
-sum_told false false total e = not_large e
+sum_told true fits total e = cc
+sum_told false true total e = (refl, cc)
+sum_told false false total e = cc
 
 -- of an answered sum over ordinates that are a cubic's
-pub answer_exact : (ordinates : List ℕ) (a b c e : ℤ) {s : ℕ} → Sum s ≡ curve_sum_of ordinates → ((i : ℕ) → i < length ordinates → pos (get_or ordinates i 0) ≡ cubic a b c e (pos i)) → pos s ≡ area a b c e (pos (length ordinates - 1))
+pub answer_exact : (ordinates : List ℕ) (a b c e : ℤ) {s : ℕ} → Ok s ≡ curve_sum_of ordinates → ((i : ℕ) → i < length ordinates → pos (get_or ordinates i 0) ≡ cubic a b c e (pos i)) → pos s ≡ area a b c e (pos (length ordinates - 1))
 unfolding curve_sum_of
 answer_exact ordinates a b c e so is =
     let n = length ordinates - 1 in

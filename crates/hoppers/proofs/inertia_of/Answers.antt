@@ -4,12 +4,6 @@ use Rattle.hoppers.proofs.Inertia.{Summed, area_most, cubes_most, first_most, le
 use Rattle.hoppers.proofs.inertia_of.Goals as goal
 use Rattle.hoppers.proofs.inertia_of.Goals.{After-side_of-to_starboard}
 
-pub side_of-to_port-requires : goal.side_of-to_port-requires
-side_of-to_port-requires c = c.requires.to_port
-
-pub side_of-to_starboard-requires : goal.side_of-to_starboard-requires
-side_of-to_starboard-requires c = c.requires.to_starboard
-
 -- both sides are summed
 summed :
     (c : After-side_of-to_starboard)

@@ -1,13 +1,12 @@
 -- The five sums of the rows of a hull, and how large they are: between the engines that make them and the table that is made of them.
 -- No definition of a row cites this file.
-use Rattle.std.specs.Prelude.{ℕ, ◌*◌, ◌^◌, ◌≤◌, ◌<◌, true, false, ◌≡◌, List, get_or}
+use Rattle.std.specs.Prelude.{ℕ, ◌*◌, ◌^◌, ◌≤◌, ◌<◌, List, Option, Some, None, get_or}
 use Rattle.ranges.specs.Fields.{range_of, most}
 use Rattle.ranges.specs.Private.InRange.{ParticularsInRange}
 use Rattle.ranges.specs.Sizes.{rows_over}
 use Rattle.ranges.specs.declared.Particulars.{Particulars}
 use Rattle.hydrostatics.specs.Row.{sums_at, waterline_of}
 use Rattle.hydrostatics.specs.Private.Hull.{Filled, InRange, OneOutside}
-use Rattle.hydrostatics.specs.declared.table.HullSums.{HullSums}
 use Rattle.hydrostatics.specs.declared.table.Sums.{Sums}
 
 abbrev pub no_sums : Sums
@@ -17,10 +16,10 @@ no_sums = record { sum = 0; sz = 0; sx = 0; q = 0; c = 0 }
 pub record MakesSums (table : List ℕ) (p : Particulars) (sums : List Sums) : Type 0 where
   pub each : Filled no_sums (λ r. sums_at table p (waterline_of r)) (rows_over p.m) sums
 
--- what an engine makes of a complete hull: the sums where it is in range, or that a half-breadth is not
-pub record TriedSums (table : List ℕ) (p : Particulars) (tried : HullSums) : Type 0 where
-  pub made : tried.in_range ≡ true → InRange table p × MakesSums table p tried.sums
-  pub outside : tried.in_range ≡ false → OneOutside table
+-- what is made of a complete hull: the sums where it is in range, none where a half-breadth is not
+abbrev pub TriedSums : List ℕ → Particulars → Option (List Sums) → Type 0
+TriedSums table p (Some sums) = InRange table p × MakesSums table p sums
+TriedSums table p None = OneOutside table
 
 -- how large the sums are that a hull in range may have: of a waterline, by the rectangle around it, and of a row, by the box around the hull
 abbrev pub most_q : ℕ

@@ -1,12 +1,13 @@
 -- The rows that any five sums make, as they lie in a table, and what filling the lent table promises. No definition of a row cites this file.
-use Rattle.std.specs.Prelude.{ℕ, zero, suc, ◌≡◌, List, [], ◌++◌, get_or}
+use Rattle.std.specs.Prelude.{ℕ, zero, suc, ◌≡◌, Result, List, [], ◌++◌, get_or}
 use Rattle.ranges.specs.declared.Particulars.{Particulars}
-use Rattle.hydrostatics.specs.Promise.{paper, count_of, table_after}
+use Rattle.ranges.specs.declared.refusal.Refusal.{Refusal}
+use Rattle.ranges.specs.Reasons.{paper}
+use Rattle.hydrostatics.specs.Promise.{count_of, table_after}
 use Rattle.hydrostatics.specs.Row.{waterline_of, row_from, numbers_of}
 use Rattle.hydrostatics.specs.Rows.{rows_up_to}
 use Rattle.hydrostatics.specs.Private.Sums.{no_sums}
 use Rattle.hydrostatics.specs.declared.Row.{Row}
-use Rattle.hydrostatics.specs.declared.Rows.{Rows}
 use Rattle.hydrostatics.specs.declared.table.Sums.{Sums}
 
 -- the numbers of rows 0, 1, … up to, not including, row `count`, as they lie in a table
@@ -18,7 +19,7 @@ numbers_up_to row (suc r) = numbers_up_to row r ++ numbers_of (row r)
 abbrev pub rows_from : Particulars → List Sums → ℕ → Row
 rows_from p sums r = row_from p (waterline_of r) (get_or sums r no_sums)
 
-module _ (row : ℕ → Row) (count : ℕ) (answer : Rows) where
+module _ (row : ℕ → Row) (count : ℕ) (answer : Result ℕ Refusal) where
   -- what is answered of the rows
   pub record TriedRows : Type 0 where
     pub answer_is : paper answer ≡ count_of (rows_up_to row count)

@@ -1,5 +1,5 @@
 -- What the code keeps of a hull's waterlines from row to row, and what its private functions promise one another. No definition of a row cites this file.
-use Rattle.std.specs.Prelude.{ℕ, ◌+◌, ◌*◌, ◌≤◌, ◌<◌, ◌≡◌, List, get_or}
+use Rattle.std.specs.Prelude.{ℕ, ◌+◌, ◌*◌, ◌≤◌, ◌<◌, ◌≡◌, List, Option, Some, None, get_or}
 use Rattle.ranges.specs.Fields.{range_of, most}
 use Rattle.ranges.specs.declared.Particulars.{Particulars}
 use Rattle.simpson.specs.Multipliers.{multiplier}
@@ -9,8 +9,6 @@ use Rattle.hydrostatics.specs.Private.Hull.{Filled, Complete, OneOutside}
 use Rattle.hydrostatics.specs.Private.Sums.{most_q}
 use Rattle.hydrostatics.specs.declared.table.Sums.{Sums}
 use Rattle.hydrostatics.specs.declared.waterplanes.Waterline.{Waterline}
-use Rattle.hydrostatics.specs.declared.waterplanes.Gathered.{Gathered}
-use Rattle.hydrostatics.specs.declared.waterplanes.Gathered.TheVariants.{Whole, Outside}
 
 -- a complete hull, and its station multipliers u
 pub record Given (table : List ℕ) (p : Particulars) (u : List ℕ) : Type 0 where
@@ -32,9 +30,9 @@ pub record WaterlineOf (table : List ℕ) (p : Particulars) (j : ℕ) (line : Wa
   pub c_is : line.c ≡ C table p j
 
 -- what a sweep over waterline j ends with
-abbrev pub GatheredOf : List ℕ → Particulars → ℕ → Gathered → Type 0
-GatheredOf table p j (Whole line) = WaterlineOf table p j line
-GatheredOf table p j Outside = OneOutside table
+abbrev pub GatheredOf : List ℕ → Particulars → ℕ → Option Waterline → Type 0
+GatheredOf table p j (Some line) = WaterlineOf table p j line
+GatheredOf table p j None = OneOutside table
 
 -- how large the sum of u·y·i over a waterline is
 abbrev pub most_x : ℕ

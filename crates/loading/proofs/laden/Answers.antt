@@ -1,7 +1,6 @@
 -- Against the first row, against the last, and else afloat between them. Assumes nothing.
-use mathlib.Core.Path.{refl, sym, ap, ◌∙◌}
+use mathlib.Core.Path.{refl, sym}
 use native.Mathlib.Omega.{arith}
-use Rattle.loading.specs.Promise.{paper}
 use Rattle.loading.specs.Private.Afloat.{Within}
 use Rattle.loading.specs.Table.{table_of}
 use Rattle.loading.proofs.Order.{is_too_light, is_too_heavy, within_table, floats_there}
@@ -15,13 +14,11 @@ within c =
 
 pub returns-then-weight-displacement_at : goal.returns-then-weight-displacement_at
 returns-then-weight-displacement_at c =
-    ap paper c.refused.ensures
-    ∙ sym (is_too_light c.args.rows.now c.args.count (omega arith) c.args.all c.displacement_at.ensures refl _ c.if-weight-displacement_at.true)
+    rw c.at.ensures (sym (is_too_light c.args.rows.now c.args.count (omega arith) c.args.all c.displacement_at.ensures refl _ c.if-weight-displacement_at.true))
 
 pub returns-then-displacement_at-weight : goal.returns-then-displacement_at-weight
 returns-then-displacement_at-weight c =
-    ap paper c.refused-then-displacement_at-weight.ensures
-    ∙ sym (is_too_heavy c.args.rows.now c.args.count (omega arith) c.args.all c.displacement_at.ensures c.displacement_at-2.ensures c.if-weight-displacement_at.false _ c.if-displacement_at-weight.true)
+    rw c.at-then-displacement_at-weight.ensures (sym (is_too_heavy c.args.rows.now c.args.count (omega arith) c.args.all c.displacement_at.ensures c.displacement_at-2.ensures c.if-weight-displacement_at.false _ c.if-displacement_at-weight.true))
 
 pub afloat-floating-requires : goal.afloat-floating-requires
 afloat-floating-requires c = (c.requires.1, within c)

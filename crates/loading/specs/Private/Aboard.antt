@@ -1,9 +1,10 @@
 -- What is aboard, added up in one walk: kg, the moments in kg·mm, the transverse one by its two sides, and the free surface.
 -- That these sums are the load's weight and moments: `Moments` of proofs/.
-use Rattle.std.specs.Prelude.{ℕ, ◌+◌, ◌*◌, ◌/◌, ◌%◌, ◌^◌, ◌≤◌, ◌≡◌, List, [], ◌∷◌, ℤ, pos, nat_abs, length, get_or}
+use Rattle.std.specs.Prelude.{ℕ, ◌+◌, ◌*◌, ◌/◌, ◌%◌, ◌^◌, ◌≤◌, ◌≡◌, List, [], ◌∷◌, ℤ, pos, nat_abs, length, get_or, Result, IfOk}
 use Rattle.ranges.specs.Fields.{most, range_of, item, x_range, y_range, z_range}
-use Rattle.ranges.specs.Outcome.{Outcome, answered, refused, and_then}
+use Rattle.ranges.specs.Outcome.{Outcome, answered, and_then}
 use Rattle.ranges.specs.Outside.{first_outside}
+use Rattle.ranges.specs.Reasons.{paper}
 use Rattle.ranges.specs.Sides.{sides_of}
 use Rattle.ranges.specs.Sizes.{item_width, tank_width, most_items, most_tanks}
 use Rattle.loading.specs.Condition.{tanks_from}
@@ -12,8 +13,7 @@ use Rattle.loading.specs.Paper.{rectangle}
 use Rattle.loading.specs.Records.{tanks_of}
 use Rattle.loading.specs.Rules.{surface_of}
 use Rattle.loading.specs.declared.Aboard.{Aboard}
-use Rattle.loading.specs.declared.tanks.Trial.{Trial}
-use Rattle.loading.specs.declared.tanks.Trial.TheVariants.{Passed, Refused}
+use Rattle.ranges.specs.declared.refusal.Refusal.{Refusal}
 
 abbrev pub nothing : Aboard
 nothing = record { weight = 0; longitudinal = 0; vertical = 0; port = 0; starboard = 0; surface = 0 }
@@ -156,14 +156,6 @@ pub record TanksWhole (table : List ℤ) : Type 0 where
 unfoldable pub tanks_aboard : List ℤ → Outcome Aboard
 tanks_aboard table = and_then (tanks_from 0 table) (λ last. answered (altogether of_tank (tanks_of table)))
 
-abbrev pub tried : Trial → Outcome Aboard
-tried (Passed all) = answered all
-tried (Refused r) = refused r.number r.place
-
-abbrev pub TrialReach : Trial → Type 0
-TrialReach (Passed all) = Reach most_in_tanks (most_tanks * most_surface) all
-TrialReach (Refused r) = Unit
-
-pub record TanksTried (table : List ℤ) (r : Trial) : Type 0 where
-  pub is : tried r ≡ tanks_aboard table
-  pub reach : TrialReach r
+pub record TanksTried (table : List ℤ) (r : Result Aboard Refusal) : Type 0 where
+  pub is : paper r ≡ tanks_aboard table
+  pub reach : IfOk r (Reach most_in_tanks (most_tanks * most_surface))

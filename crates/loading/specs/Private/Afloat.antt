@@ -1,10 +1,9 @@
 -- A usable table of rows in the lent list, and where a weight within it floats: the words of private contracts.
-use Rattle.std.specs.Prelude.{ℕ, ◌+◌, ◌*◌, ◌-◌, ◌≤◌, ◌<◌, ◌≡◌, List, ltb, length}
-use Rattle.arithmetic.specs.Choice.{when◌then◌else◌}
+use Rattle.std.specs.Prelude.{ℕ, ◌+◌, ◌*◌, ◌-◌, ◌≤◌, ◌<◌, ◌≡◌, List, Option, Some, None, length}
 use Rattle.ranges.specs.Fields.{most, highest_metacentre}
 use Rattle.ranges.specs.Private.InRange.{row_range}
 use Rattle.hydrostatics.specs.Usable.{row_in, usable_up_to}
-use Rattle.ranges.specs.Outcome.{answered, refused}
+use Rattle.ranges.specs.Outcome.{Outcome, answered, refused}
 use Rattle.ranges.specs.Refusals.{rows_not_usable}
 use Rattle.ranges.specs.Sizes.{row_width, least_rows, most_rows}
 use Rattle.loading.specs.Paper.{paper_rules}
@@ -23,9 +22,10 @@ pub record RowsUsable (rows : List ℕ) (count : ℕ) : Type 0 where
   pub size : RowsWhole rows count
   pub usable : usable_up_to rows count ≡ answered count
 
--- the first row that is not usable, or the count
-pub record RowsTried (rows : List ℕ) (count bad : ℕ) : Type 0 where
-  pub is : usable_up_to rows count ≡ (when ltb bad count then refused rows_not_usable bad else answered count)
+-- the first row that is not usable, if there is one
+abbrev pub usable_but_for : ℕ → Option ℕ → Outcome ℕ
+usable_but_for count (Some bad) = refused rows_not_usable bad
+usable_but_for count None = answered count
 
 -- neither refusal 11 nor 12
 pub record Within (t : Table) (W : ℕ) : Type 0 where

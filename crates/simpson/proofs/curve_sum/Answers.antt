@@ -1,28 +1,24 @@
--- The running sum is that of the stations passed. A term that finds no room makes the whole sum too large, since what follows takes nothing off. Assumes nothing.
+-- Each return is one of the three answers. Assumes nothing.
+use Prim.Native.Nat.{◌+◌, ◌*◌, ◌^◌, ◌≤◌}
 use native.Mathlib.Omega.{arith}
-use Rattle.simpson.proofs.Running.{running_none, running_step, too_short, too_large, summed, some}
+use lib.ListN.{get_or}
+use Rattle.std.proofs.lemmas.Grind.{common_steps}
+use Rattle.simpson.proofs.Running.{running_none, running_step, too_short, too_large, summed}
 use Rattle.simpson.proofs.curve_sum.Goals as goal
 
-pub returns-then-stations-lt-LEAST_ORDINATES : goal.returns-then-stations-lt-LEAST_ORDINATES
-returns-then-stations-lt-LEAST_ORDINATES c = too_short _ (omega arith)
+pub returns-then-ordinates-lt-LEAST_ORDINATES : goal.returns-then-ordinates-lt-LEAST_ORDINATES
+returns-then-ordinates-lt-LEAST_ORDINATES c = too_short _ (omega arith)
 
 pub loop-i-init : goal.loop-i-init
 loop-i-init c = running_none _ (omega arith)
 
-pub nonzero_div-sum : goal.nonzero_div-sum
-nonzero_div-sum c = some c.loop-i.invariant (omega arith) c.multiplier-u.ensures
-
-pub returns-then-sum-u : goal.returns-then-sum-u
-returns-then-sum-u c = too_large c.loop-i.invariant (omega arith) c.multiplier-u.ensures (omega arith)
+pub returns-in_err-sum : goal.returns-in_err-sum
+returns-in_err-sum c =
+    let over : 2 ^ 64 ≤ c.loop-i.sum + c.multiplier-u.result * get_or c.args.ordinates.now c.loop-i.i 0 = grind (arith, common_steps) in
+    grind (arith, common_steps, too_large c.loop-i.invariant (omega arith) c.multiplier-u.ensures over)
 
 pub loop-i-preserved : goal.loop-i-preserved
-loop-i-preserved c = running_step c.loop-i.invariant (omega arith) c.multiplier-u.ensures (omega arith)
-
-pub overflow_mul-sum : goal.overflow_mul-sum
-overflow_mul-sum c = let next = loop-i-preserved c in omega arith
-
-pub overflow_add-sum : goal.overflow_add-sum
-overflow_add-sum c = let next = loop-i-preserved c in omega arith
+loop-i-preserved c = grind (arith, common_steps, running_step c.loop-i.invariant (omega arith) c.multiplier-u.ensures)
 
 pub returns : goal.returns
 returns c = summed c.loop-i.invariant (omega arith)

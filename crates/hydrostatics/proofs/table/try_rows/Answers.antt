@@ -1,5 +1,8 @@
 -- The rows before row r have passed; a row that does not pass is the first. Assumes nothing.
+use mathlib.Core.Path.{ap}
 use native.Mathlib.Omega.{arith}
+use Rattle.std.specs.Prelude.{Err}
+use Rattle.ranges.specs.Reasons.{paper}
 use Rattle.hydrostatics.proofs.Passing.{passing_none, passing_more, passing_all, too_low, too_high, refusal}
 use Rattle.hydrostatics.proofs.table.try_rows.Goals as goal
 
@@ -10,10 +13,10 @@ pub row_from-row-requires : goal.row_from-row-requires
 row_from-row-requires c = let given = c.requires in (given.particulars, given.each _ (omega arith))
 
 pub returns-then-displacement-before : goal.returns-then-displacement-before
-returns-then-displacement-before c = refusal (too_low c.loop-r.invariant.1 c.row_from-row.ensures c.if-displacement-before.true _ (omega arith)) c.refused.ensures
+returns-then-displacement-before c = refusal (too_low c.loop-r.invariant.1 c.row_from-row.ensures c.if-displacement-before.true _ (omega arith)) (ap (λ r. paper (Err r)) c.at.ensures)
 
 pub returns-then-row-gt-HIGHEST_METACENTRE : goal.returns-then-row-gt-HIGHEST_METACENTRE
-returns-then-row-gt-HIGHEST_METACENTRE c = refusal (too_high c.loop-r.invariant.1 c.row_from-row.ensures c.if-displacement-before.false c.if-row-gt-HIGHEST_METACENTRE.true _ (omega arith)) c.refused-then-row-gt-HIGHEST_METACENTRE.ensures
+returns-then-row-gt-HIGHEST_METACENTRE c = refusal (too_high c.loop-r.invariant.1 c.row_from-row.ensures c.if-displacement-before.false c.if-row-gt-HIGHEST_METACENTRE.true _ (omega arith)) (ap (λ r. paper (Err r)) c.at-then-row-gt-HIGHEST_METACENTRE.ensures)
 
 pub loop-r-preserved : goal.loop-r-preserved
 loop-r-preserved c = (omega arith, passing_more c.loop-r.invariant.1 c.row_from-row.ensures c.if-displacement-before.false c.if-row-gt-HIGHEST_METACENTRE.false)

@@ -6,9 +6,9 @@ use Rattle.hydrostatics.specs.Private.Hull.{InRange}
 use Rattle.hydrostatics.specs.Private.Waterplanes.{LineInRange}
 use Rattle.hydrostatics.proofs.Filling.{filling_none, filling_more, filling_all}
 use Rattle.hydrostatics.proofs.Keeping.{Kept, kept_small, kept_sums}
-use Rattle.hydrostatics.proofs.Tried.{lines_in_range, tried_made, tried_outside}
+use Rattle.hydrostatics.proofs.Tried.{lines_in_range}
 use Rattle.hydrostatics.proofs.waterplanes.hull_sums.Goals as goal
-use Rattle.hydrostatics.proofs.waterplanes.hull_sums.Goals.{After-c-1}
+use Rattle.hydrostatics.proofs.waterplanes.hull_sums.Goals.{After-loop-j}
 
 pub station_multipliers-u-requires : goal.station_multipliers-u-requires
 station_multipliers-u-requires c = c.requires.particulars.n_most
@@ -21,14 +21,11 @@ loop-j-init c =
 pub waterline_sums-requires : goal.waterline_sums-requires
 waterline_sums-requires c = (record { hull = c.requires; multipliers = c.station_multipliers-u.ensures }, omega arith)
 
-pub returns-in-Outside : goal.returns-in-Outside
-returns-in-Outside c = tried_outside (rw c.in-Outside.is at c.waterline_sums.ensures)
-
 pub loop-j-preserved : goal.loop-j-preserved
 loop-j-preserved c =
     let s = c.args in
     let inv = c.loop-j.invariant in
-    let gathered = rw c.in-Whole.is at c.waterline_sums.ensures in (
+    let gathered = c.in_ok-line.ensures in (
       omega arith,
       below_more (LineInRange s.table.now s.p) c.loop-j.j inv.1 gathered.is_in_range,
       filling_more inv.2 (omega arith) gathered.q_is,
@@ -37,11 +34,11 @@ loop-j-preserved c =
     )
 
 -- every waterline was swept
-is_in_range : (c : After-c-1) → let s = c.args in InRange s.table.now s.p
+is_in_range : (c : After-loop-j) → let s = c.args in InRange s.table.now s.p
 is_in_range c =
     lines_in_range c.requires (λ j h. c.loop-j.invariant.1 j (omega arith))
 
-kept : (c : After-c-1) → let s = c.args in Kept s.table.now s.p c.loop-j.q c.loop-j.x c.loop-j.c
+kept : (c : After-loop-j) → let s = c.args in Kept s.table.now s.p c.loop-j.q c.loop-j.x c.loop-j.c
 kept c =
     let all = c.loop-j.invariant in
     record {
@@ -50,8 +47,8 @@ kept c =
       c_is = filling_all all.4 (omega arith);
     }
 
-pub sums_of_rows-sums-requires : goal.sums_of_rows-sums-requires
-sums_of_rows-sums-requires c = kept_small (kept c) (omega arith) (is_in_range c)
+pub sums_of_rows-requires : goal.sums_of_rows-requires
+sums_of_rows-requires c = kept_small (kept (goal.at.sums_of_rows-requires c).After-loop-j) (omega arith) (is_in_range (goal.at.sums_of_rows-requires c).After-loop-j)
 
 pub returns : goal.returns
-returns c = tried_made (is_in_range (goal.at.returns c).After-c-1) (kept_sums (kept (goal.at.returns c).After-c-1) c.sums_of_rows-sums.ensures)
+returns c = (is_in_range (goal.at.returns c).After-loop-j, kept_sums (kept (goal.at.returns c).After-loop-j) c.sums_of_rows.ensures)

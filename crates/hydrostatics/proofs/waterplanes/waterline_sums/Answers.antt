@@ -25,14 +25,14 @@ loop-i-init c =
 pub half_breadth_at-y-requires : goal.half_breadth_at-y-requires
 half_breadth_at-y-requires c = let given = c.requires in (given.0.hull, c.loop-i-test.true, given.1)
 
-pub returns-then-not-whole_in_range : goal.returns-then-not-whole_in_range
-returns-then-not-whole_in_range c =
+pub returns-then-not-is_within : goal.returns-then-not-is_within
+returns-then-not-is_within c =
     let given = c.requires in
-    line_outside given.0.hull (omega arith) given.1 c.half_breadth_at-y.ensures (sym c.whole_in_range.ensures ∙ c.if-not-whole_in_range.true)
+    line_outside given.0.hull (omega arith) given.1 c.half_breadth_at-y.ensures (sym c.is_within.ensures ∙ c.if-not-is_within.true)
 
 y_most : (c : After-uy-1) → c.half_breadth_at-y.result ≤ most (range_of 5)
 y_most c =
-    (within_whole (range_of 5) _ (sym c.whole_in_range.ensures ∙ c.if-not-whole_in_range.false)).1
+    (within_whole (range_of 5) _ (sym c.is_within.ensures ∙ c.if-not-is_within.false)).1
 
 pub loop-i-preserved : goal.loop-i-preserved
 loop-i-preserved c =

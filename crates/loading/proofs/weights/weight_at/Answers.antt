@@ -5,10 +5,10 @@ use Rattle.arithmetic.proofs.Products.{product_fits}
 use Rattle.ranges.specs.Sides.{sides_of}
 use Rattle.loading.proofs.Reaches.{port_most, starboard_most}
 use Rattle.loading.proofs.weights.weight_at.Goals as goal
-use Rattle.loading.proofs.weights.weight_at.Goals.{After-sides_of-sides}
+use Rattle.loading.proofs.weights.weight_at.Goals.{After-from-sides}
 
-sides : (c : After-sides_of-sides) → c.sides_of-sides.result ≡ sides_of c.args.y
-sides c = heard sides_of c.ranges.y c.sides_of-sides.ensures
+sides : (c : After-from-sides) → c.from-sides.result ≡ sides_of c.args.y
+sides c = heard sides_of c.ranges.y c.from-sides.ensures
 
 pub overflow_mul-result : goal.overflow_mul-result
 overflow_mul-result c = product_fits c.requires.kg_most c.requires.x_most tt
