@@ -8,14 +8,14 @@ use Prim.Native.Nat.{ℕ}
 use borrow.Author.Tests.{not-false, eqb-true, ltb-false}
 use lib.IntN.{ℤ}
 use lib.ListN.{length}
+use Rattle.std.specs.Prelude.{Ok, Err}
 use Rattle.ranges.specs.Refusals.{out_of_range, wrong_size}
-use Rattle.ranges.specs.declared.Refusal.{Refusal}
+use Rattle.ranges.specs.declared.refusal.Refusal.{Refusal}
 use Rattle.ranges.proofs.Outcomes.{answer_same, not_refused}
 use Rattle.levers.specs.Criterion.{GM, profile}
 use Rattle.levers.specs.Levers.{GZ, at_each}
 use Rattle.levers.specs.Promise.{count, outside, profile_of, levers_after, MakesProfile}
 use Rattle.levers.specs.Sines.{angle_count}
-use Rattle.levers.specs.declared.Answer.TheVariants.{Found, Refused}
 use Rattle.levers.specs.declared.Profile.{Profile}
 use Rattle.levers.proofs.Trying.{Inside, inside}
 
@@ -26,7 +26,7 @@ pub record Told (kn : List ℕ) (km kg : ℕ) (after : List ℤ) (p : Profile) :
   pub levers_are : after ≡ at_each (GZ kn kg)
 
 module _ {kn : List ℕ} {km kg : ℕ} where
-  pub found_told : {gz after : List ℤ} {p : Profile} → MakesProfile kn km kg gz after (Found p) → Told kn km kg after p
+  pub found_told : {gz after : List ℤ} {p : Profile} → MakesProfile kn km kg gz after (Ok p) → Told kn km kg after p
   unfolding profile_of
   found_told {gz} {p} made =
       let first = not_refused wrong_size 0 (sym made.answer_is) in
@@ -39,5 +39,5 @@ module _ {kn : List ℕ} {km kg : ℕ} where
         levers_are = made.left ∙ sym (ap (λ o. levers_after kn kg o gz) made.answer_is);
       }
 
-  pub refused_left : {gz after : List ℤ} {r : Refusal} → MakesProfile kn km kg gz after (Refused r) → after ≡ gz
+  pub refused_left : {gz after : List ℤ} {r : Refusal} → MakesProfile kn km kg gz after (Err r) → after ≡ gz
   refused_left {gz} made = made.left ∙ sym (ap (λ o. levers_after kn kg o gz) made.answer_is)

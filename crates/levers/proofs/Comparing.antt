@@ -1,9 +1,9 @@
 -- Rules by the parts of a number of either sign.
---     value_back                what a callee made of small parts is what they come to
+--     small_back, value_back    what a callee made of two small numbers is their difference; and of parts, what they come to
 --     missed, met               a rule by parts, either way
 --     met_told                  what it tells that a rule is met
 --     reaches                   a rule is met just where the number is at least so much
---     area_missed, area_met     the same of an area by the parts of a sum, and area-told
+--     area_missed, area_met     the same of an area by the parts of a sum; area_told
 -- Assumes nothing.
 use Prim.Native.Nat.{ℕ, ◌+◌, ◌*◌, ◌≤◌, ◌<◌}
 use mathlib.Core.Bool.{true}
@@ -20,14 +20,17 @@ use Rattle.arithmetic.proofs.Crossing.{back, nearest_back}
 use Rattle.arithmetic.proofs.Differences.{whole_le_z, difference_times, difference_near}
 use Rattle.arithmetic.proofs.Tests.{by_test}
 use Rattle.levers.specs.Criterion.{sum_unit, area_unit, at_least, area_at_least}
-use Rattle.levers.specs.Private.Parts.{value, Small}
-use Rattle.levers.specs.declared.Parts.{Parts}
+use Rattle.levers.specs.Private.Parts.{value}
+use Rattle.levers.specs.Private.Tables.{most_sum}
+use Rattle.levers.specs.declared.parts.Parts.{Parts}
 use Rattle.levers.specs.declared.Rule.{Rule}
 use Rattle.levers.specs.declared.Rule.TheVariants.{Met, Missed}
 
-pub value_back : {p : Parts} {r : ℤ} → Small p → r ≡ nearest (value p) → back r ≡ value p
-value_back {p} so e =
-    nearest_back (value p) e ∙ difference_near p.whole p.off (omega (arith, so.whole_most)) (omega (arith, so.off_most))
+pub small_back : (a b : ℕ) {r : ℤ} → a ≤ most_sum → b ≤ most_sum → r ≡ nearest (pos a -ℤ pos b) → back r ≡ pos a -ℤ pos b
+small_back a b h k e = nearest_back (pos a -ℤ pos b) e ∙ difference_near a b (omega (arith, h)) (omega (arith, k))
+
+pub value_back : (p : Parts) {r : ℤ} → r ≡ nearest (value p) → back r ≡ value p
+value_back p e = small_back p.whole p.off p.whole_small p.off_small e
 
 not_both : {X : Type 0} → ◌≡◌ {A = Rule} Missed Met → X
 not_both e = let z : ◌≡◌ {A = ℕ} 0 1 = cc in absurd (omega arith)

@@ -11,16 +11,16 @@ use native.Mathlib.Omega.{arith}
 use lib.IntN.{ℤ, pos, ◌-ℤ◌}
 use lib.ListN.{get_or}
 use lib.Signed.{◌≤ℤ◌}
+use Rattle.std.specs.Prelude.{Result, Ok}
 use Rattle.arithmetic.proofs.Differences.{difference_le}
 use Rattle.arithmetic.proofs.Rounding.{up_of, up_mono}
+use Rattle.ranges.specs.declared.refusal.Refusal.{Refusal}
 use Rattle.simpson.specs.Curve.{curve, curve_ℤ}
 use Rattle.simpson.proofs.Curves.{curve_mono, curve_ℤ_less}
 use Rattle.levers.specs.Criterion.{least_area, least_gz, least_gm, at_least, area_at_least, GM}
 use Rattle.levers.specs.Levers.{products, lever, GZ, Q}
 use Rattle.levers.specs.Promise.{MakesProfile}
 use Rattle.levers.specs.Sines.{sine, million, number_at}
-use Rattle.levers.specs.declared.Answer.{Answer}
-use Rattle.levers.specs.declared.Answer.TheVariants.{Found}
 use Rattle.levers.specs.declared.Profile.{Profile}
 use Rattle.levers.specs.declared.Rule.TheVariants.{Met}
 use Rattle.levers.specs.declared.Rules.{Rules}
@@ -75,9 +75,9 @@ module _ (kn : List ℕ) {kg kg' : ℕ} (lower : kg' ≤ kg) where
   unfolding Q
   area_still least is = area_kept (number_at 30) (number_at (40 - 30)) least is
 
-module _ {kn : List ℕ} {km kg kg' : ℕ} (lower : kg' ≤ kg) {gz gz' after after' : List ℤ} {answer : Answer} {p : Profile}
-    (found : MakesProfile kn km kg gz after (Found p)) (made : MakesProfile kn km kg' gz' after' answer) where
-  pub lower_kg : (p' : Profile) × (answer ≡ Found p')
+module _ {kn : List ℕ} {km kg kg' : ℕ} (lower : kg' ≤ kg) {gz gz' after after' : List ℤ} {answer : Result Profile Refusal} {p : Profile}
+    (found : MakesProfile kn km kg gz after (Ok p)) (made : MakesProfile kn km kg' gz' after' answer) where
+  pub lower_kg : (p' : Profile) × (answer ≡ Ok p')
       × (p.rules.gm ≡ Met → p'.rules.gm ≡ Met)
       × (p.rules.area_from_30_to_40 ≡ Met → p'.rules.area_from_30_to_40 ≡ Met)
       × (p.rules.gz_at_30 ≡ Met → p'.rules.gz_at_30 ≡ Met)
@@ -86,7 +86,7 @@ module _ {kn : List ℕ} {km kg kg' : ℕ} (lower : kg' ≤ kg) {gz gz' after af
       let so = told.is_in_range in
       let answered = else_found made told.as_many (λ i l. so.kn_most i) so.km_most (omega (arith, so.kg_most)) in
       let p' = answered.0 in
-      let again : MakesProfile kn km kg' gz' after' (Found p') = subst (MakesProfile kn km kg' gz' after') answered.1 made in
+      let again : MakesProfile kn km kg' gz' after' (Ok p') = subst (MakesProfile kn km kg' gz' after') answered.1 made in
       let was = ap (λ (p : Profile). p.rules) told.profile_is in
       let is = ap (λ (p : Profile). p.rules) (found_told again).profile_is in (
         p',

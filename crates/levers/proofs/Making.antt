@@ -11,17 +11,17 @@ use mathlib.Core.List.{List}
 use native.Mathlib.Omega.{arith}
 use borrow.Author.Tests.{ltb-false}
 use lib.IntN.{ℤ, pos, ◌-ℤ◌}
+use Rattle.std.specs.Prelude.{Ok, Err}
 use Rattle.arithmetic.proofs.Choice.{if_either}
 use Rattle.ranges.specs.Outcome.{answered, refused}
-use Rattle.ranges.specs.declared.Refusal.{Refusal}
+use Rattle.ranges.specs.Reasons.{number_of}
+use Rattle.ranges.specs.declared.refusal.Refusal.{Refusal}
 use Rattle.simpson.specs.Curve.{curve_ℤ}
 use Rattle.levers.specs.Criterion.{least_peak, area_and_t, least_area, least_gz, least_gm, at_least, area_at_least, GM, profile}
 use Rattle.levers.specs.Levers.{products, lever, GZ, at_each, peak, Q, held, t}
-use Rattle.levers.specs.Private.Parts.{Between}
+use Rattle.levers.specs.Private.Tables.{Between}
 use Rattle.levers.specs.Promise.{profile_of, levers_after, MakesProfile}
 use Rattle.levers.specs.Sines.{degrees, number_at}
-use Rattle.levers.specs.declared.Answer.{Answer}
-use Rattle.levers.specs.declared.Answer.TheVariants.{Found, Refused}
 use Rattle.levers.specs.declared.Profile.{Profile}
 use Rattle.levers.specs.declared.Rule.{Rule}
 
@@ -78,10 +78,10 @@ module _ (gz : ℕ → ℤ) (height : ℤ) {gm lever30 toT from30 : ℤ} {angle 
   }
 
 module _ {kn : List ℕ} {km kg : ℕ} {gz : List ℤ} where
-  pub declined : {r : Refusal} {answer : Answer} → answer ≡ Refused r → refused r.number r.place ≡ profile_of kn km kg → MakesProfile kn km kg gz gz answer
+  pub declined : {r s : Refusal} → r ≡ s → refused (number_of s.reason) s.place ≡ profile_of kn km kg → MakesProfile kn km kg gz gz (Err r)
   declined a e = rw a (record { answer_is = e; left = ap (λ o. levers_after kn kg o gz) e })
 
-  pub answered_so : {off : List ℕ} {levers : List ℤ} {p : Profile} → off ≡ products kg → levers ≡ at_each (lever kn off) → p ≡ profile (lever kn off) (GM km kg) → answered (profile (GZ kn kg) (GM km kg)) ≡ profile_of kn km kg → MakesProfile kn km kg gz levers (Found p)
+  pub answered_so : {off : List ℕ} {levers : List ℤ} {p : Profile} → off ≡ products kg → levers ≡ at_each (lever kn off) → p ≡ profile (lever kn off) (GM km kg) → answered (profile (GZ kn kg) (GM km kg)) ≡ profile_of kn km kg → MakesProfile kn km kg gz levers (Ok p)
   answered_so o l p e = record {
     answer_is = ap answered (p ∙ ap (λ off. profile (lever kn off) (GM km kg)) o) ∙ e;
     left = l ∙ ap (λ off. at_each (lever kn off)) o ∙ ap (λ o. levers_after kn kg o gz) e;

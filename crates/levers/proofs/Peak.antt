@@ -19,7 +19,7 @@ use Rattle.arithmetic.proofs.Choice.{if_either, chosen}
 use Rattle.arithmetic.proofs.Differences.{difference_lt_z, lt_le, le_lt}
 use Rattle.arithmetic.proofs.Tests.{same_or_other}
 use Rattle.levers.specs.Levers.{lever, peak_up_to, held}
-use Rattle.levers.specs.Private.Parts.{greater_of}
+use Rattle.levers.specs.Private.Tables.{greater_of}
 
 module _ (kn off : List ℕ) (first i : ℕ) where
   abbrev less : ℕ

@@ -1,33 +1,25 @@
 -- Multiplied sums over parts of the tables.
 --     sum_most                                   how large one is
---     sum_made, sum_else                         what the sum over a part of a table comes to, and that it comes to nothing else
---     lever_sum, sums_small                      the sum of levers by those of their tables, which are small
+--     sum_made                                   what the sum over a part of a table comes to
+--     lever_sum                                  the sum of levers by those of their tables
 -- Assumes nothing.
 use Prim.Native.Nat.{ℕ, ◌+◌, ◌-◌, ◌^◌, ◌≤◌}
 use mathlib.Core.Path.{◌≡◌, sym, ap, ap₂, ◌∙◌}
-use mathlib.Core.Bool.{Bool, true, false}
 use mathlib.Core.List.{List}
 use native.Mathlib.Omega.{arith}
 use borrow.Author.Tests.{lt-ltb, le-ltb}
 use lib.IntN.{pos, ◌-ℤ◌}
 use lib.ListN.{length, take, drop, get_or, length-drop}
 use lib.Seq.{length-take-le, get_or-take, get_or-drop}
+use Rattle.std.specs.Prelude.{Result, Ok}
 use Rattle.arithmetic.proofs.Choice.{chosen}
-use Rattle.arithmetic.proofs.Tests.{never}
 use Rattle.ranges.specs.Fields.{most, metacentre}
 use Rattle.simpson.specs.Curve.{curve, curve_ℤ, curve_sum_of}
-use Rattle.simpson.specs.declared.CurveSum.{CurveSum}
-use Rattle.simpson.specs.declared.CurveSum.TheVariants.{Sum, TooShort, TooLarge}
+use Rattle.simpson.specs.declared.CurveError.{CurveError}
 use Rattle.simpson.proofs.Curves.{curve_same, curve_ℤ_less}
 use Rattle.simpson.proofs.Moments.{curve_le}
 use Rattle.levers.specs.Levers.{lever}
-use Rattle.levers.specs.Private.Parts.{value, Small, sum_over, most_sum, TableInRange, Tables, Between}
-use Rattle.levers.specs.declared.Parts.{Parts}
-
-abbrev pub is_sum : CurveSum → Bool
-is_sum (Sum s) = true
-is_sum TooShort = false
-is_sum TooLarge = false
+use Rattle.levers.specs.Private.Tables.{sum_over, most_sum, TableInRange, Between}
 
 module _ {table : List ℕ} {from to : ℕ} (so : TableInRange table) (b : Between from to) where
   pub sum_most : sum_over table from to ≤ most_sum
@@ -47,23 +39,17 @@ module _ {table : List ℕ} {from to : ℕ} (so : TableInRange table) (b : Betwe
       ∙ curve_same (to - from) (λ i. get_or part i 0) (λ i. get_or table (from + i) 0)
       (λ i l. get_or-take (to + 1 - from) (drop from table) i 0 (omega (arith, b.two)) ∙ get_or-drop from table i 0)
 
-  sum_is : curve_sum_of part ≡ Sum (sum_over table from to)
+  pub sum_made : {r : Result ℕ CurveError} → r ≡ curve_sum_of part → r ≡ Ok (sum_over table from to)
   unfolding curve_sum_of
-  sum_is =
-      simp (le-ltb (length part) 3 (omega (arith, part_length, b.two)), part_sum, lt-ltb (sum_over table from to) (2 ^ 64) (omega (arith, sum_most)), chosen)
+  sum_made e =
+      e
+      ∙ simp (le-ltb (length part) 3 (omega (arith, part_length, b.two)), part_sum, lt-ltb (sum_over table from to) (2 ^ 64) (omega (arith, sum_most)), chosen)
 
-  pub sum_made : {s : ℕ} → Sum s ≡ curve_sum_of part → s ≡ sum_over table from to
-  sum_made {s} e = let same : Sum s ≡ Sum (sum_over table from to) = e ∙ sum_is in cc
+pub ok_same : {a b : ℕ} → ◌≡◌ {A = Result ℕ CurveError} (Ok a) (Ok b) → a ≡ b
+ok_same e = cc
 
-  pub sum_else : {X : Type 0} (other : CurveSum) → is_sum other ≡ false → other ≡ curve_sum_of part → X
-  sum_else other none e = never (sym none ∙ ap is_sum (e ∙ sum_is))
-
-module _ {kn off : List ℕ} {from to : ℕ} (so : Tables kn off) (b : Between from to) {p : Parts} (e : p.whole ≡ sum_over kn from to) (f : p.off ≡ sum_over off from to) where
-  pub lever_sum : value p ≡ curve_ℤ (to - from) (λ i. lever kn off (from + i))
-  unfolding lever
-  lever_sum =
-      ap₂ (λ a b. pos a -ℤ pos b) e f
-      ∙ sym (curve_ℤ_less (to - from) (λ i. get_or kn (from + i) 0) (λ i. get_or off (from + i) 0))
-
-  pub sums_small : Small p
-  sums_small = record { whole_most = omega (arith, e, sum_most so.of_kn b); off_most = omega (arith, f, sum_most so.of_off b) }
+pub lever_sum : (kn off : List ℕ) (from to : ℕ) {a b : ℕ} → a ≡ sum_over kn from to → b ≡ sum_over off from to → pos a -ℤ pos b ≡ curve_ℤ (to - from) (λ i. lever kn off (from + i))
+unfolding lever
+lever_sum kn off from to e f =
+    ap₂ (λ a b. pos a -ℤ pos b) e f
+    ∙ sym (curve_ℤ_less (to - from) (λ i. get_or kn (from + i) 0) (λ i. get_or off (from + i) 0))

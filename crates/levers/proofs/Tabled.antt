@@ -1,13 +1,13 @@
 -- The tables of products and of levers.
 --     sine_le                                     no sine is above 1
 --     products_length, product_at, product_le     the products, each by its number, and none above KG
---     products_in_range                           so they are a table in range, as KN in range is: kn-in-range
---     lever_is, lever_small, lever_back           a lever by its parts, which are small; and as a callee made it
+--     products_in_range                           so they are a table in range, as KN in range is: kn_in_range
+--     lever_is, lever_back                        a lever by its parts; and as a callee made it
 --     levers_length, lever_at                     the levers, each by its number
 -- Assumes nothing.
 use Prim.Native.Nat.{ℕ, zero, suc, ◌+◌, ◌*◌, ◌≤◌, ◌<◌}
 use mathlib.Core.Bool.{Bool, true, ◌&&◌}
-use mathlib.Core.Path.{◌≡◌, refl, sym, ap, ◌∙◌}
+use mathlib.Core.Path.{◌≡◌, refl, sym, ap, ap₂, ◌∙◌}
 use mathlib.Core.List.{List, [], ◌∷◌, map}
 use native.Mathlib.Nat.{mul-le-mul_left}
 use native.Mathlib.Omega.{arith}
@@ -25,9 +25,11 @@ use Rattle.ranges.specs.Fields.{◌to◌, within, most, metacentre, cross_lever}
 use Rattle.ranges.specs.Outside.{first_outside, outside_from}
 use Rattle.ranges.proofs.Facts.{wholes_in_range}
 use Rattle.levers.specs.Levers.{products, lever, angles, at_each}
-use Rattle.levers.specs.Private.Parts.{value, Small, lever_parts, TableInRange, Tables}
+use Rattle.levers.specs.Private.Parts.{value, IsLever}
+use Rattle.levers.specs.Private.Tables.{TableInRange}
+use Rattle.levers.specs.declared.parts.Parts.{Parts}
 use Rattle.levers.specs.Sines.{sines, sine, million, angle_count}
-use Rattle.levers.proofs.Comparing.{value_back}
+use Rattle.levers.proofs.Comparing.{small_back}
 
 -- ---- the products
 pub sine_le : (i : ℕ) → sine i ≤ million
@@ -64,17 +66,14 @@ pub kn_in_range : {kn : List ℕ} → length kn ≡ angle_count → ((i : ℕ) �
 kn_in_range {kn} e h = record { as_many = e; none_higher = λ i. omega (arith, h i) }
 
 -- ---- the levers
-module _ {kn off : List ℕ} (so : Tables kn off) (i : ℕ) where
-  pub lever_is : value (lever_parts kn off i) ≡ lever kn off i
+module _ {kn off : List ℕ} (i : ℕ) where
+  pub lever_is : {p : Parts} → IsLever kn off i p → value p ≡ lever kn off i
   unfolding lever
-  lever_is = refl
+  lever_is so = ap₂ (λ a b. pos a -ℤ pos b) so.whole_is so.off_is
 
-  pub lever_small : Small (lever_parts kn off i)
-  lever_small = record { whole_most = omega (arith, so.of_kn.none_higher i); off_most = omega (arith, so.of_off.none_higher i) }
-
-  pub lever_back : {r : ℤ} → r ≡ nearest (pos (get_or kn i 0) -ℤ pos (get_or off i 0)) → back r ≡ lever kn off i
+  pub lever_back : TableInRange kn → TableInRange off → {r : ℤ} → r ≡ nearest (pos (get_or kn i 0) -ℤ pos (get_or off i 0)) → back r ≡ lever kn off i
   unfolding lever
-  lever_back e = value_back lever_small e
+  lever_back k o e = small_back (get_or kn i 0) (get_or off i 0) (omega (arith, k.none_higher i)) (omega (arith, o.none_higher i)) e
 
 -- each number of a list is its own place, counted from one on
 is_in_place : ℕ → List ℕ → Bool

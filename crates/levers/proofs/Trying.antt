@@ -1,9 +1,10 @@
 -- The tests, in the paper's order.
---     kn_outside, height_outside           where the first number out of range stands; heights-le: of KM and KG there are two
---     Inside, inside, tables_in_range      what it tells that none is
+--     kn_outside, height_outside           where the first number out of range stands
+--     place_told                           the place as the code answers it
+--     Inside, inside                       what it tells that none is
 --     refused_size, refused_range, found   what the call comes to, test by test
 -- Assumes nothing.
-use mathlib.Core.Path.{◌≡◌, sym, ◌∙◌}
+use mathlib.Core.Path.{◌≡◌, sym, ap, ◌∙◌}
 use mathlib.Core.List.{List, [], ◌∷◌, map}
 use Prim.Native.Nat.{ℕ, ◌+◌, ◌≤◌, ◌<◌}
 use native.Mathlib.Omega.{arith}
@@ -16,16 +17,13 @@ use Rattle.ranges.specs.Outcome.{answered, refused}
 use Rattle.ranges.specs.Outside.{first_outside}
 use Rattle.ranges.specs.Refusals.{out_of_range, wrong_size}
 use Rattle.ranges.proofs.Facts.{all_within, within_whole, wholes_in_range}
-use Rattle.ranges.proofs.Outside.{outside_le, then_within, then_after, then_inside}
+use Rattle.ranges.proofs.Outside.{then_within, then_after, then_inside, place_some}
+use Rattle.ranges.specs.Private.Bounds.{place_in}
+use Rattle.std.specs.Prelude.{Some}
 use Rattle.levers.specs.Criterion.{GM, profile}
-use Rattle.levers.specs.Levers.{products, GZ}
-use Rattle.levers.specs.Private.Parts.{Tables}
+use Rattle.levers.specs.Levers.{GZ}
 use Rattle.levers.specs.Promise.{count, outside, profile_of}
 use Rattle.levers.specs.Sines.{angle_count}
-use Rattle.levers.proofs.Tabled.{kn_in_range, products_in_range}
-
-pub heights_le : (km kg : ℕ) {s : ℕ} → s ≡ first_outside heights (map pos (km ∷ kg ∷ [])) → s ≤ length heights
-heights_le km kg e = omega (arith, e, outside_le heights (map pos (km ∷ kg ∷ [])))
 
 module _ (kn : List ℕ) (km kg : ℕ) where
   abbrev in_heights : ℕ
@@ -40,6 +38,10 @@ module _ (kn : List ℕ) (km kg : ℕ) where
     pub height_outside : length kn ≤ r → {s : ℕ} → s ≡ in_heights → length kn + s ≡ outside kn km kg
     unfolding outside
     height_outside h f = omega (arith, f, length-map kn pos, then_after cross_curve (map pos kn) in_heights (omega (arith, e, length-map kn pos)))
+
+  -- the place as the code answers it
+  pub place_told : {place : ℕ} → place ≡ outside kn km kg → place < count → Some place ≡ place_in count (outside kn km kg)
+  place_told e l = ap Some e ∙ sym (place_some (omega (arith, e)))
 
   -- ---- none is outside
   pub record Inside : Type 0 where
@@ -57,9 +59,6 @@ module _ (kn : List ℕ) (km kg : ℕ) where
         km_most = (within_whole metacentre km (at 0 (omega arith))).1;
         kg_most = (within_whole metacentre kg (at 1 (omega arith))).1;
       }
-
-  pub tables_in_range : length kn ≡ angle_count → Inside → {off : List ℕ} → off ≡ products kg → Tables kn off
-  tables_in_range size so e = rw e (record { of_kn = kn_in_range size so.kn_most; of_off = products_in_range kg so.kg_most })
 
   -- ---- what the call comes to
   pub refused_size : (length kn ≡ angle_count → ⊥) → refused wrong_size 0 ≡ profile_of kn km kg

@@ -1,15 +1,15 @@
 -- What the call that makes a supply vessel's profile comes to: "7 at 0, then 4 by angle, KM, KG (places 0..14)".
-use Rattle.std.specs.Prelude.{ℕ, ◌+◌, ◌≡◌, not, List, [], ◌∷◌, map, eqb, ltb, ℤ, pos, length}
+use Rattle.std.specs.Prelude.{ℕ, ◌+◌, ◌≡◌, not, List, [], ◌∷◌, map, eqb, ltb, ℤ, pos, length, Result}
 use Rattle.arithmetic.specs.Choice.{when◌then◌else◌}
 use Rattle.ranges.specs.Fields.{cross_curve, heights}
 use Rattle.ranges.specs.Outcome.{Outcome, answered, refused, value_after}
 use Rattle.ranges.specs.Outside.{first_outside, outside_then}
+use Rattle.ranges.specs.Reasons.{paper}
 use Rattle.ranges.specs.Refusals.{out_of_range, wrong_size}
+use Rattle.ranges.specs.declared.refusal.Refusal.{Refusal}
 use Rattle.levers.specs.Criterion.{GM, profile}
 use Rattle.levers.specs.Levers.{GZ, at_each}
 use Rattle.levers.specs.Sines.{angle_count}
-use Rattle.levers.specs.declared.Answer.{Answer}
-use Rattle.levers.specs.declared.Answer.TheVariants.{Found, Refused}
 use Rattle.levers.specs.declared.Profile.{Profile}
 
 -- KN at each angle, KM and KG
@@ -27,15 +27,10 @@ module _ (kn : List ℕ) (km kg : ℕ) where
       else when ltb outside count then refused out_of_range outside
       else answered (profile (GZ kn kg) (GM km kg))
 
--- the paper's number and values for each answer
-abbrev pub paper : Answer → Outcome Profile
-paper (Found p) = answered p
-paper (Refused r) = refused r.number r.place
-
 -- the lent levers afterwards: GZ at each angle; after a refusal what they were
 abbrev pub levers_after : List ℕ → ℕ → Outcome Profile → List ℤ → List ℤ
 levers_after kn kg = value_after (λ p. at_each (GZ kn kg))
 
-pub record MakesProfile (kn : List ℕ) (km kg : ℕ) (gz gzAfter : List ℤ) (answer : Answer) : Type 0 where
+pub record MakesProfile (kn : List ℕ) (km kg : ℕ) (gz gzAfter : List ℤ) (answer : Result Profile Refusal) : Type 0 where
   pub answer_is : paper answer ≡ profile_of kn km kg
   pub left : gzAfter ≡ levers_after kn kg (profile_of kn km kg) gz

@@ -136,9 +136,9 @@ decimal_is_digits n (suc zero) h =
 decimal_is_digits n (suc (suc k)) h =
     let low : 10 ^ suc k ≤ n = subst (λ j. 10 ^ j ≤ n) (omega arith) (h.2 (omega arith)) in
     let many : 10 ≤ n = omega (arith, pow-suc 10 k, one-le-pow k 10 (omega arith)) in
-    let tenth-low : 10 ^ k ≤ n / 10 = omega (arith, pow-suc 10 k) in
-    let tenth-high : n / 10 < 10 ^ suc k = omega (arith, pow-suc 10 (suc k)) in
+    let tenth_low : 10 ^ k ≤ n / 10 = omega (arith, pow-suc 10 k) in
+    let tenth_high : n / 10 < 10 ^ suc k = omega (arith, pow-suc 10 (suc k)) in
     let less : k ≡ suc k - 1 = omega arith in
-    let tenth = decimal_is_digits (n / 10) (suc k) (omega arith, tenth-high, λ more. subst (λ j. 10 ^ j ≤ n / 10) less tenth-low) in
+    let tenth = decimal_is_digits (n / 10) (suc k) (omega arith, tenth_high, λ more. subst (λ j. 10 ^ j ≤ n / 10) less tenth_low) in
     ap (λ l. l ++ hex_digit_ascii (n % 10) ∷ []) tenth ∙ ap (λ b. decimal (n / 10) ++ b ∷ []) (glyph_is (n % 10) (omega arith))
     ∙ sym (decimal_of_more n many)

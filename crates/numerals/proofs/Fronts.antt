@@ -10,25 +10,25 @@
 --     numeral_of_number                    a number that it says is found there, with the place after it
 --     number_of_numeral                    a number found there that ends where it does is what it says
 --     not_of_other, not_of_none            where one ends elsewhere, or none is found, it says none
+--     token_says                           of a token by itself: what it says, by whether the number found ends it, as the machine holds it
 -- Assumes nothing.
 use Prim.Native.Nat.{ℕ, zero, suc, ◌+◌, ◌≤◌}
-use mathlib.Core.Bool.{true, false}
+use mathlib.Core.Bool.{Bool, true, false}
 use mathlib.Core.Path.{◌≡◌, refl, sym, ap, ◌∙◌}
-use mathlib.Core.List.{List, [], ◌∷◌, ◌++◌}
+use mathlib.Core.List.{List, [], ◌∷◌, ◌++◌, append-nil}
 use native.Mathlib.Omega.{arith}
 use borrow.Author.Tests.{ne_eqb}
 use lib.IntN.{ℤ}
 use lib.ListN.{length, take, drop, get_or, length-take, get_or-append}
 use lib.Seq.{take_at}
 use Rattle.arithmetic.proofs.Choice.{chosen, if_either}
+use Rattle.arithmetic.proofs.Crossing.{back}
 use Rattle.numerals.specs.Number.{minus, is_digit, all_digits, number_of}
 use Rattle.numerals.specs.Front.{digits_of, enough_digits, front, ends_at, numeral_at}
-use Rattle.numerals.specs.declared.reading.Number.{Number}
-use Rattle.numerals.specs.declared.reading.Number.TheVariants.{Is, Not}
-use Rattle.numerals.specs.declared.reading.Numeral.{Numeral}
-use Rattle.numerals.specs.declared.reading.Numeral.TheVariants.{Ends, None}
+use Rattle.std.specs.Prelude.{Option, Some, None}
+use Rattle.std.specs.Bool.{then_some}
 use Rattle.arithmetic.proofs.Tests.{both}
-use Rattle.numerals.proofs.Numbers.{Signed, after_minus, plain, sign_of, number_of_minus, number_of_plain, said_parts, not_number}
+use Rattle.numerals.proofs.Numbers.{Signed, after_minus, plain, sign_of, number_of_minus, number_of_plain, said_parts, not_number, number_back}
 
 -- ---- the digits that a text begins with
 pub digits_more : (most b : ℕ) (l : List ℕ) → is_digit b ≡ true → digits_of (suc most) (b ∷ l) ≡ b ∷ digits_of most l
@@ -92,10 +92,10 @@ front_is_prefix l = go (sign_of l)
     go (after_minus l) = rw (front_of_minus l) (ap (λ m. minus ∷ m) (digits_prefix enough_digits l))
     go (plain {l} h) = rw (front_of_plain l h) (digits_prefix enough_digits l)
 
-pub front_of_number : (t rest : List ℕ) {v : ℤ} → number_of t ≡ Is v → NoDigit rest → front (t ++ rest) ≡ t
+pub front_of_number : (t rest : List ℕ) {v : ℤ} → number_of t ≡ Some v → NoDigit rest → front (t ++ rest) ≡ t
 front_of_number t rest e n = go (sign_of t) e
   where
-    go : {t : List ℕ} → Signed t → {v : ℤ} → number_of t ≡ Is v → front (t ++ rest) ≡ t
+    go : {t : List ℕ} → Signed t → {v : ℤ} → number_of t ≡ Some v → front (t ++ rest) ≡ t
     go (after_minus l) e =
         let w = (said_parts true l (sym (number_of_minus l) ∙ e)).0 in
         front_of_minus (l ++ rest) ∙ ap (λ m. minus ∷ m) (digits_stop enough_digits l rest (omega arith) w.all n)
@@ -105,23 +105,23 @@ front_of_number t rest e n = go (sign_of t) e
         ∙ digits_stop enough_digits l rest (omega arith) w.all n
 
 -- ---- a token in a text
-none_not_ends : {v : ℤ} {i : ℕ} → ◌≡◌ {A = Numeral} None (Ends v i) → ⊥
-none_not_ends e = let z : ◌≡◌ {A = ℕ} 0 1 = cc in omega arith
+none_not_some : {A : Type 0} {a : A} → ◌≡◌ {A = Option A} None (Some a) → ⊥
+none_not_some e = let z : ◌≡◌ {A = ℕ} 0 1 = cc in omega arith
 
-pub ends_parts : {stop stop' : ℕ} {v : ℤ} (n : Number) → ends_at stop n ≡ Ends v stop' → (n ≡ Is v) × (stop ≡ stop')
+some_same : {A : Type 0} {a b : A} → ◌≡◌ {A = Option A} (Some a) (Some b) → a ≡ b
+some_same e = cc
+
+pub ends_parts : {stop stop' : ℕ} {v : ℤ} (n : Option ℤ) → ends_at stop n ≡ Some (record { value = v; stop = stop' }) → (n ≡ Some v) × (stop ≡ stop')
 unfolding ends_at
-ends_parts (Is w) e = (cc, cc)
-ends_parts Not e = absurd (none_not_ends e)
-
-ends_same : {v w : ℤ} {i j : ℕ} → ◌≡◌ {A = Numeral} (Ends v i) (Ends w j) → i ≡ j
-ends_same e = cc
+ends_parts (Some w) e = let same = some_same e in (ap (λ n. Some n.value) same, ap (λ n. n.stop) same)
+ends_parts None e = absurd (none_not_some e)
 
 module _ (text : List ℕ) (at : ℕ) (t rest : List ℕ) (stands : drop at text ≡ t ++ rest) where
-  pub numeral_of_number : {v : ℤ} → number_of t ≡ Is v → NoDigit rest → numeral_at text at ≡ Ends v (at + length t)
+  pub numeral_of_number : {v : ℤ} → number_of t ≡ Some v → NoDigit rest → numeral_at text at ≡ Some (record { value = v; stop = at + length t })
   unfolding numeral_at ends_at
   numeral_of_number e n = rw (stands, front_of_number t rest e n, e)
 
-  pub number_of_numeral : {v : ℤ} {stop : ℕ} → numeral_at text at ≡ Ends v stop → stop ≡ at + length t → number_of t ≡ Is v
+  pub number_of_numeral : {v : ℤ} {stop : ℕ} → numeral_at text at ≡ Some (record { value = v; stop = stop }) → stop ≡ at + length t → number_of t ≡ Some v
   unfolding numeral_at
   number_of_numeral e same =
       let p = ends_parts (number_of (front (drop at text))) e in
@@ -129,8 +129,17 @@ module _ (text : List ℕ) (at : ℕ) (t rest : List ℕ) (stands : drop at text
       let whole : front (drop at text) ≡ t = ap front stands ∙ front_is_prefix (t ++ rest) ∙ take_at t rest _ (sym l) in
       ap number_of (sym whole) ∙ p.0
 
-  pub not_of_other : {v : ℤ} {stop : ℕ} → NoDigit rest → numeral_at text at ≡ Ends v stop → (stop ≡ at + length t → ⊥) → number_of t ≡ Not
-  not_of_other n e elsewhere = not_number t (λ w f. elsewhere (ends_same (sym e ∙ numeral_of_number f n)))
+  pub not_of_other : {v : ℤ} {stop : ℕ} → NoDigit rest → numeral_at text at ≡ Some (record { value = v; stop = stop }) → (stop ≡ at + length t → ⊥) → number_of t ≡ None
+  not_of_other n e elsewhere = not_number t (λ w f. elsewhere (ap (λ n. n.stop) (some_same (sym e ∙ numeral_of_number f n))))
 
-  pub not_of_none : NoDigit rest → numeral_at text at ≡ None → number_of t ≡ Not
-  not_of_none n e = not_number t (λ w f. none_not_ends (sym e ∙ numeral_of_number f n))
+  pub not_of_none : NoDigit rest → numeral_at text at ≡ None → number_of t ≡ None
+  not_of_none n e = not_number t (λ w f. none_not_some (sym e ∙ numeral_of_number f n))
+
+-- ---- a token by itself
+module _ (token : List ℕ) {v : ℤ} {stop : ℕ} (found : numeral_at token 0 ≡ Some (record { value = v; stop = stop })) where
+  pub token_says : (t : Bool) → (t ≡ true → stop ≡ length token) → (t ≡ false → stop ≡ length token → ⊥) → then_some t (back v) ≡ number_of token
+  token_says true ends not_ends =
+      let says = number_of_numeral token 0 token [] (sym (append-nil token)) found (omega (arith, ends refl)) in
+      ap Some (number_back token says) ∙ sym says
+  token_says false ends not_ends =
+      sym (not_of_other token 0 token [] (sym (append-nil token)) ended found (λ same. not_ends refl (omega arith)))

@@ -13,9 +13,8 @@ use native.Mathlib.Omega.{arith}
 use borrow.Author.Tests.{le-leb, lt-leb}
 use lib.ListN.{length, get_or, replicate, length-append, length-replicate}
 use Rattle.numerals.specs.Number.{minus, zero_digit, is_digit, all_digits, value_from, value, most_digits, is_whole, number_of}
-use Rattle.numerals.specs.Private.Sign.{said_by}
-use Rattle.numerals.specs.declared.reading.Number.TheVariants.{Not}
-use Rattle.numerals.proofs.Numbers.{number_of_minus, number_of_plain, said_not, said_zero}
+use Rattle.std.specs.Prelude.{None}
+use Rattle.numerals.proofs.Numbers.{said_by, number_of_minus, number_of_plain, said_not, said_zero}
 
 -- so many zeros in front of digits
 abbrev pub zeros_before : ℕ → List ℕ → List ℕ
@@ -54,7 +53,7 @@ module _ (k : ℕ) (digits : List ℕ) (some : 1 ≤ length digits) (few : k + l
       no_minus zero = plain
       no_minus (suc k) = λ e. omega arith
 
-pub minus_zeros : (k : ℕ) → number_of (minus ∷ replicate k zero_digit) ≡ Not
+pub minus_zeros : (k : ℕ) → number_of (minus ∷ replicate k zero_digit) ≡ None
 unfolding value_from
 minus_zeros k =
     let none : value (replicate k zero_digit) ≡ 0 = ap value (sym (append-nil (replicate k zero_digit))) ∙ value_of_zeros k [] in
@@ -65,8 +64,8 @@ module _ (digits : List ℕ) (many : most_digits < length digits) where
   unfolding is_whole
   not_whole = rw (lt-leb _ _ many) (simp and-false)
 
-  pub beyond_nine : (get_or digits 0 0 ≡ minus → ⊥) → number_of digits ≡ Not
+  pub beyond_nine : (get_or digits 0 0 ≡ minus → ⊥) → number_of digits ≡ None
   beyond_nine plain = number_of_plain digits plain ∙ said_not false digits not_whole
 
-  pub minus_beyond_nine : number_of (minus ∷ digits) ≡ Not
+  pub minus_beyond_nine : number_of (minus ∷ digits) ≡ None
   minus_beyond_nine = number_of_minus digits ∙ said_not true digits not_whole

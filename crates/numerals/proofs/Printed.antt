@@ -12,7 +12,7 @@ use lib.IntN.{ℤ, pos, negsuc, neg_ℤ, nat_abs}
 use lib.ListN.{length, drop, get_or}
 use Rattle.numerals.specs.Number.{minus, most_digits, is_whole, value, number_of}
 use Rattle.numerals.specs.Printed.{decimal, printed}
-use Rattle.numerals.specs.declared.reading.Number.TheVariants.{Is}
+use Rattle.std.specs.Prelude.{Some}
 use Rattle.numerals.proofs.Wholes.{is_whole_of, first_not_minus}
 use Rattle.numerals.proofs.Decimal.{all_of_decimal, value_of_decimal, some_of_decimal, length_of_decimal}
 use Rattle.numerals.proofs.Numbers.{number_of_minus, number_of_plain, said_is}
@@ -30,14 +30,14 @@ whole_of_decimal n h =
 plain_decimal : (n : ℕ) → get_or (decimal n) 0 0 ≡ minus → ⊥
 plain_decimal n = first_not_minus (decimal n) (all_of_decimal n)
 
-pub number_of_printed : (v : ℤ) → nat_abs v < 10 ^ most_digits → number_of (printed v) ≡ Is v
+pub number_of_printed : (v : ℤ) → nat_abs v < 10 ^ most_digits → number_of (printed v) ≡ Some v
 unfolding printed
 number_of_printed (pos n) h =
-    number_of_plain (decimal n) (plain_decimal n) ∙ said_is false (decimal n) (whole_of_decimal n h) (λ t z. false≢true t) ∙ ap (λ k. Is (pos k)) (value_of_decimal n)
+    number_of_plain (decimal n) (plain_decimal n) ∙ said_is false (decimal n) (whole_of_decimal n h) (λ t z. false≢true t) ∙ ap (λ k. Some (pos k)) (value_of_decimal n)
 number_of_printed (negsuc n) h =
     let some : value (decimal (suc n)) ≡ 0 → ⊥ = λ z. omega (arith, value_of_decimal (suc n)) in
     number_of_minus (decimal (suc n)) ∙ said_is true (decimal (suc n)) (whole_of_decimal (suc n) h) (λ t. some)
-    ∙ ap (λ k. Is (neg_ℤ (pos k))) (value_of_decimal (suc n))
+    ∙ ap (λ k. Some (neg_ℤ (pos k))) (value_of_decimal (suc n))
 
 pub printed_injective : (v w : ℤ) → printed v ≡ printed w → v ≡ w
 unfolding printed

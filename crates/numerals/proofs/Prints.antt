@@ -1,22 +1,20 @@
 -- Printing: a number's text in lent room.
 --     prints_unique                       only one room and one length meet a promise to print
---     by_sign, negative_some              a number is its size with its sign; one below 0 has some size
 --     printed_by_sign, length_by_sign     its text is a minus or none, and the digits of its size
 --     Spelled, spelled                    the digits that `io::decimal` wrote are the number's
 --     prints_short                        what a call leaves where the room is too short
---     digits_fit, prints_fits             where it is not: the part that is lent for the digits is as long as they are; what is left once they are copied there
+--     prints_fits                         what is left where it is not, once the digits are copied into the part that is lent for them
 -- Assumes nothing.
 use Prim.Native.Nat.{ℕ, zero, suc, ◌+◌, ◌-◌, ◌≤◌, ◌<◌}
-use mathlib.Core.Bool.{Bool, true, false, false≢true}
+use mathlib.Core.Bool.{Bool, true, false}
 use mathlib.Core.Path.{◌≡◌, refl, sym, ap, ap₂, ◌∙◌}
 use mathlib.Core.List.{List, [], ◌∷◌, ◌++◌, append_assoc}
 use native.Mathlib.Omega.{arith}
-use lib.IntN.{ℤ, pos, negsuc, nat_abs}
-use lib.ListN.{length, take, drop, set, length-append, length-set}
+use lib.IntN.{ℤ}
+use lib.ListN.{length, take, drop, set, length-append}
 use lib.Seq.{take_at, drop-set-lt}
 use mir.Val.{bool_byte}
-use borrow.Rule.Slice.PartMut.{mid_len, Post-is}
-use Rattle.arithmetic.specs.Signed.{is_negative}
+use borrow.Rule.Slice.PartMut.{Post-is}
 use Rattle.arithmetic.proofs.Room.{laid_fits, laid_short}
 use Rattle.io.specs.Counts.{IsPrefixLen}
 use Rattle.io.specs.Digits.{last_digits as digits, IsDigitCount}
@@ -36,14 +34,6 @@ abbrev pub after_part : ℕ → ℕ → List ℕ → List ℕ
 after_part a b l = drop (b - a) (drop a l)
 
 -- ---- by sign and size
-pub by_sign : (v : ℤ) → with_sign (is_negative v) (nat_abs v) ≡ v
-by_sign (pos n) = refl
-by_sign (negsuc n) = refl
-
-pub negative_some : (v : ℤ) → is_negative v ≡ true → 0 < nat_abs v
-negative_some (pos n) e = absurd (false≢true e)
-negative_some (negsuc n) e = omega arith
-
 abbrev pub sign_text : Bool → List ℕ
 sign_text true = minus ∷ []
 sign_text false = []
@@ -87,12 +77,6 @@ module _ (sign : Bool) (n : ℕ) (some : sign ≡ true → 0 < n) where
 
     pub prints_short : length room < bool_byte sign + count → Prints (with_sign sign n) room room (bool_byte sign + count)
     prints_short h = record { length_is = length_is; left = sym (laid_short _ room (omega (arith, length_is))) }
-
-    -- whatever is in the first place, the part from the digits' start on that is lent for them is as long as they are
-    pub digits_fit : (b : ℕ) → bool_byte sign + count ≤ length room → length (part (bool_byte sign) (bool_byte sign + count) (set room 0 b)) ≡ length (take count digits)
-    digits_fit b h =
-        rw d.text_is
-        (mid_len (bool_byte sign) (bool_byte sign + count) (set room 0 b) (omega (arith, length-set room 0 b)) ∙ omega (arith, d.count_is))
 
     -- a minus went into the first place, and the digits into that part, which came back
     pub prints_fits :

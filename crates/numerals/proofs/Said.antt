@@ -1,4 +1,5 @@
 -- What the digits from a place of a text say, and the number at a place.
+--     said_from                                       what they say, and the place after them
 --     said_from_is, said_from_not, said_from_zero     what they say, by their count and value, as the machine holds it
 --     numeral_past, numeral_within                    the number at a place: none beyond the end; else what the digits say, after a minus or none
 -- Assumes nothing.
@@ -20,13 +21,17 @@ use Rattle.arithmetic.proofs.Crossing.{back, mag_le, nearest_back, nearest_of_sm
 use Rattle.arithmetic.proofs.Parts.{drop_step}
 use Rattle.numerals.specs.Number.{minus, is_digit_count, is_whole, value, number_of}
 use Rattle.numerals.specs.Front.{enough_digits, front, ends_at, numeral_at}
-use Rattle.numerals.specs.Private.Sign.{with_sign, said_by, digits_from, said_from, DigitsFrom}
+use Rattle.numerals.specs.Private.Sign.{with_sign, digits_from, DigitsFrom}
 use Rattle.numerals.specs.declared.reading.Digits.{Digits}
-use Rattle.numerals.specs.declared.reading.Number.TheVariants.{Is, Not}
-use Rattle.numerals.specs.declared.reading.Numeral.TheVariants.{Ends, None}
+use Rattle.numerals.specs.declared.reading.Numeral.{Numeral}
+use Rattle.std.specs.Prelude.{Option, Some, None}
 use Rattle.numerals.proofs.Wholes.{first_not_minus, whole_by_count}
-use Rattle.numerals.proofs.Numbers.{number_of_minus, number_of_plain, said_is, said_not, said_zero, said_lt}
+use Rattle.numerals.proofs.Numbers.{said_by, number_of_minus, number_of_plain, said_is, said_not, said_zero, said_lt}
 use Rattle.numerals.proofs.Fronts.{all_of_digits, front_of_minus, front_of_plain}
+
+-- what the digits from a place on say, after a minus or none, and the place after them
+unfoldable pub said_from : List ℕ → ℕ → Bool → Option Numeral
+said_from text from minus = ends_at (from + length (digits_from text from)) (said_by minus (digits_from text from))
 
 module _ {text : List ℕ} {from : ℕ} {r : Digits} (d : DigitsFrom text from r) where
   -- so many digits were found
@@ -38,7 +43,7 @@ module _ {text : List ℕ} {from : ℕ} {r : Digits} (d : DigitsFrom text from r
       let many : count ≡ length (digits_from text from) = omega (arith, d.stop_is) in
       rw many (whole_by_count (digits_from text from) (all_of_digits enough_digits (drop from text)))
 
-  not_said : (sign : Bool) → said_by sign (digits_from text from) ≡ Not → None ≡ said_from text from sign
+  not_said : (sign : Bool) → said_by sign (digits_from text from) ≡ None → None ≡ said_from text from sign
   unfolding said_from ends_at
   not_said sign e = rw e
 
@@ -54,15 +59,15 @@ module _ {text : List ℕ} {from : ℕ} {r : Digits} (d : DigitsFrom text from r
       → (sign ≡ true → r.value ≡ 0 → ⊥)
       → {v : ℤ}
       → v ≡ nearest (with_sign sign r.value)
-      → Ends (back v) r.stop ≡ said_from text from sign
+      → Some (record { value = back v; stop = r.stop }) ≡ said_from text from sign
   unfolding said_from ends_at
   said_from_is sign e some {v} n =
       let digits = digits_from text from in
       let z = with_sign sign (value digits) in
-      let says : said_by sign digits ≡ Is z = said_is sign digits (whole_counted ∙ e) (λ t o. some t (d.value_is ∙ o)) in
+      let says : said_by sign digits ≡ Some z = said_is sign digits (whole_counted ∙ e) (λ t o. some t (d.value_is ∙ o)) in
       let held : v ≡ nearest z = n ∙ ap (λ k. nearest (with_sign sign k)) d.value_is in
       let small : mag z < 2 ^ 63 = omega (arith, mag_le z, said_lt sign digits says) in
-      rw says (ap₂ Ends (nearest_back z held ∙ nearest_of_small z small) d.stop_is)
+      rw says (ap₂ (λ k stop. Some (record { value = k; stop = stop })) (nearest_back z held ∙ nearest_of_small z small) d.stop_is)
 
 -- ---- the number at a place of a text
 module _ (text : List ℕ) (at : ℕ) where

@@ -1,25 +1,22 @@
 -- The loop that takes digits from a place of a text: what it has so far, and the digits still to come, are the whole.
 --     Taken                        n is the value of the digits from place `from` up to, not including, place `stop`
---     taken_none, taken_more       none yet; one more
---     taken_small                  so few that one more fits
+--     taken_more                   one more
 --     taken_all                    where no more come, those are the digits
 --     other_to_come, past_end      no more come before another byte, nor past the end of the text or of the ten
 -- Assumes nothing.
 use Prim.Native.Nat.{ℕ, suc, ◌+◌, ◌-◌, ◌*◌, ◌^◌, ◌≤◌, ◌<◌, min}
-use mathlib.Core.Bool.{true, false}
 use mathlib.Core.Path.{◌≡◌, sym, ap, ◌∙◌}
 use mathlib.Core.Logic.{⊎_elim}
 use mathlib.Core.List.{List, [], ◌∷◌}
-use native.Mathlib.Nat.{pow-suc, pow-zero, pow-le-pow_right}
+use native.Mathlib.Nat.{pow-suc}
 use native.Mathlib.Omega.{arith}
-use lib.Dec.{lit<}
 use lib.ListN.{length, drop, get_or, length-drop, drop_of_length-le}
 use Rattle.arithmetic.proofs.Parts.{drop_step}
-use Rattle.numerals.specs.Number.{zero_digit, is_digit, value_from, value, most_digits}
+use Rattle.numerals.specs.Number.{zero_digit, value_from, value}
 use Rattle.numerals.specs.Front.{digits_of, enough_digits}
 use Rattle.numerals.specs.Private.Sign.{digits_from, DigitsFrom}
 use Rattle.arithmetic.proofs.Tests.{less_or_not}
-use Rattle.numerals.proofs.Wholes.{digit_range}
+use Rattle.numerals.proofs.Wholes.{digit_in, no_digit}
 use Rattle.numerals.proofs.Fronts.{ended, other, digits_more, digits_none, digits_at_zero, length_of_digits}
 
 module _ (text : List ℕ) (from : ℕ) where
@@ -34,31 +31,12 @@ module _ (text : List ℕ) (from : ℕ) where
     pub value_goes_on : value_from n (to_come stop) ≡ value (digits_from text from)
     pub stop_goes_on : stop + length (to_come stop) ≡ from + length (digits_from text from)
 
-  pub taken_none : Taken 0 from
-  taken_none =
-      let none : from - from ≡ 0 = omega arith in
-      let ten : from + enough_digits - from ≡ enough_digits = omega arith in
-      let all : to_come from ≡ digits_from text from = ap (λ k. digits_of k (drop from text)) ten in
-      record {
-        past = omega arith;
-        few = omega arith;
-        small = rw (none, pow-zero) (omega arith);
-        value_goes_on = ap value all;
-        stop_goes_on = ap (λ l. from + length l) all;
-      }
-
-  pub taken_small : {n stop : ℕ} → Taken n stop → stop < from + enough_digits → n < 10 ^ most_digits
-  taken_small {n} {stop} t h =
-      let nine : stop - from ≤ most_digits = omega arith in
-      let bound : 10 ^ (stop - from) ≤ 10 ^ most_digits = pow-le-pow_right (lit< tt) nine in
-      omega (arith, t.small)
-
   -- the next byte, where it is a digit
-  module _ {stop : ℕ} (h : stop < length text) (room : stop < from + enough_digits) (e : is_digit (get_or text stop 0) ≡ true) where
+  module _ {stop : ℕ} (h : stop < length text) (room : stop < from + enough_digits) (low : zero_digit ≤ get_or text stop 0) (high : get_or text stop 0 ≤ zero_digit + 9) where
     next : to_come stop ≡ get_or text stop 0 ∷ to_come (stop + 1)
     next =
         let one : from + enough_digits - stop ≡ suc (from + enough_digits - (stop + 1)) = omega arith in
-        rw (one, drop_step text stop 0 h) (digits_more _ _ _ e)
+        rw (one, drop_step text stop 0 h) (digits_more _ _ _ (digit_in _ low high))
 
     pub taken_more : {n : ℕ} → Taken n stop → Taken (n * 10 + (get_or text stop 0 - zero_digit)) (stop + 1)
     unfolding value_from
@@ -67,7 +45,7 @@ module _ (text : List ℕ) (from : ℕ) where
         record {
           past = omega (arith, t.past);
           few = omega arith;
-          small = rw (one, pow-suc) (omega (arith, t.small, digit_range _ e));
+          small = rw (one, pow-suc) (omega (arith, t.small));
           value_goes_on = ap (value_from n) (sym next) ∙ t.value_goes_on;
           stop_goes_on = omega (arith, ap length next, t.stop_goes_on);
         }
@@ -82,8 +60,8 @@ module _ (text : List ℕ) (from : ℕ) where
         within = omega (arith, length_of_digits enough_digits (drop from text), length-drop from text);
       }
 
-  pub other_to_come : (stop : ℕ) → stop < length text → is_digit (get_or text stop 0) ≡ false → to_come stop ≡ []
-  other_to_come stop h e = rw (drop_step text stop 0 h) (digits_none _ (other e))
+  pub other_to_come : (stop : ℕ) → stop < length text → (zero_digit ≤ get_or text stop 0 → get_or text stop 0 ≤ zero_digit + 9 → ⊥) → to_come stop ≡ []
+  other_to_come stop h e = rw (drop_step text stop 0 h) (digits_none _ (other (no_digit _ e)))
 
   pub past_end : (stop : ℕ) → min (length text) (from + enough_digits) ≤ stop → to_come stop ≡ []
   past_end stop h =

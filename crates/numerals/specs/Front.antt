@@ -1,12 +1,9 @@
 -- The number at the front of a text, read with no knowledge of where its token ends: an optional minus and the digits after it,
 -- ten at the most, since ten are too many already. Whoever reads it sees whether the token ends there.
-use Rattle.std.specs.Prelude.{ℕ, zero, suc, ◌+◌, List, [], ◌∷◌, eqb, length, drop}
+use Rattle.std.specs.Prelude.{ℕ, zero, suc, ◌+◌, List, [], ◌∷◌, eqb, ℤ, length, drop, Option, Some, None}
 use Rattle.arithmetic.specs.Choice.{when◌then◌else◌}
 use Rattle.numerals.specs.Number.{minus, is_digit, most_digits, number_of}
-use Rattle.numerals.specs.declared.reading.Number.{Number}
-use Rattle.numerals.specs.declared.reading.Number.TheVariants.{Is, Not}
 use Rattle.numerals.specs.declared.reading.Numeral.{Numeral}
-use Rattle.numerals.specs.declared.reading.Numeral.TheVariants.{Ends, None}
 
 -- the digits that a text begins with, `most` at the most
 unfoldable pub digits_of : ℕ → List ℕ → List ℕ
@@ -23,9 +20,9 @@ front [] = []
 front (b ∷ rest) = when eqb b minus then b ∷ digits_of enough_digits rest else digits_of enough_digits (b ∷ rest)
 
 -- the number that a front says, and the place after it where it starts at place `at`
-unfoldable pub ends_at : ℕ → Number → Numeral
-ends_at stop (Is v) = Ends v stop
-ends_at stop Not = None
+unfoldable pub ends_at : ℕ → Option ℤ → Option Numeral
+ends_at stop (Some v) = Some (record { value = v; stop = stop })
+ends_at stop None = None
 
-unfoldable pub numeral_at : List ℕ → ℕ → Numeral
+unfoldable pub numeral_at : List ℕ → ℕ → Option Numeral
 numeral_at text at = ends_at (at + length (front (drop at text))) (number_of (front (drop at text)))

@@ -1,9 +1,7 @@
 -- What a token says. "A run of other bytes is one token and must be a number: an optional minus, then 1 to 9 digits"; leading zeros
 -- are allowed within the nine, and "minus zero stays refused, as does minus with only zeros".
-use Rattle.std.specs.Prelude.{ℕ, ◌+◌, ◌-◌, ◌*◌, Bool, true, not, ◌&&◌, List, [], ◌∷◌, leb, eqb, pos, neg_ℤ, length}
+use Rattle.std.specs.Prelude.{ℕ, ◌+◌, ◌-◌, ◌*◌, Bool, true, not, ◌&&◌, List, [], ◌∷◌, leb, eqb, ℤ, pos, neg_ℤ, length, Option, Some, None}
 use Rattle.arithmetic.specs.Choice.{when◌then◌else◌}
-use Rattle.numerals.specs.declared.reading.Number.{Number}
-use Rattle.numerals.specs.declared.reading.Number.TheVariants.{Is, Not}
 
 -- the bytes of the minus and of the digit 0; the other digits follow it
 abbrev pub minus : ℕ
@@ -38,9 +36,9 @@ unfoldable pub is_whole : List ℕ → Bool
 is_whole digits = all_digits digits && is_digit_count (length digits)
 
 -- "an optional minus", and no number 0 after it, however many zeros
-unfoldable pub number_of : List ℕ → Number
-number_of [] = Not
+unfoldable pub number_of : List ℕ → Option ℤ
+number_of [] = None
 number_of (b ∷ rest) =
     when eqb b minus
-    then (when is_whole rest && not (eqb (value rest) 0) then Is (neg_ℤ (pos (value rest))) else Not)
-    else (when is_whole (b ∷ rest) then Is (pos (value (b ∷ rest))) else Not)
+    then (when is_whole rest && not (eqb (value rest) 0) then Some (neg_ℤ (pos (value rest))) else None)
+    else (when is_whole (b ∷ rest) then Some (pos (value (b ∷ rest))) else None)

@@ -5,4 +5,4 @@ mod printing;
 mod reading;
 
 pub use printing::{print, print_whole};
-pub use reading::{Number, Numeral, numeral_at, read_number};
+pub use reading::{Numeral, numeral_at, read_number};

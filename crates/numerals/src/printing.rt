@@ -13,7 +13,7 @@ pub fn print(v: i64, room: &mut [u8]) -> usize
     print_signed(arithmetic::is_negative(v), arithmetic::magnitude(v), room)
 }
 
-// The same for a whole number that may be larger than any signed one.
+// The same for a whole number that may be larger than any signed one: of the two calls each is one line over `print_signed`.
 pub fn print_whole(n: u64, room: &mut [u8]) -> usize
     ensures { Prints (pos n) room.old room.new result }
 {
@@ -25,9 +25,10 @@ fn print_signed(minus: bool, n: u64, room: &mut [u8]) -> usize
     requires { minus ≡ true → 0 < n }
     ensures { Prints (with_sign minus n) room.old room.new result }
 {
+    // An array and a count, since nothing is allocated.
     let mut digits = [0u8; MOST_PRINTED_DIGITS];
     let count = io::decimal(n, &mut digits);
-    let start = minus as usize;
+    let start = usize::from(minus);
     let length = start + count;
     if room.len() < length {
         return length;

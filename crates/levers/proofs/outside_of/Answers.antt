@@ -1,13 +1,28 @@
 -- KN first, then KM and KG. Assumes nothing.
+use mathlib.Core.Path.{refl, sym, ◌∙◌}
 use native.Mathlib.Omega.{arith}
-use Rattle.levers.proofs.Trying.{kn_outside, height_outside, heights_le}
+use Rattle.ranges.proofs.Outside.{place_none, some_place, none_place}
+use Rattle.levers.proofs.Trying.{kn_outside, height_outside, place_told}
 use Rattle.levers.proofs.outside_of.Goals as goal
 
-pub returns-then-in_table-kn : goal.returns-then-in_table-kn
-returns-then-in_table-kn c = kn_outside _ _ _ c.cross_curve_outside-in_table.ensures c.if-in_table-kn.true
+pub returns-in-Some : goal.returns-in-Some
+returns-in-Some c =
+    let at = some_place (sym c.in-Some.ensures) in
+    place_told _ _ _ (kn_outside _ _ _ at.0 (omega (arith, at.0, at.1))) (omega (arith, at.0, at.1))
 
 pub overflow_add-result : goal.overflow_add-result
-overflow_add-result c = omega (arith, heights_le _ _ c.heights_outside.ensures)
+overflow_add-result c = let at = some_place (sym c.first_outside-2.ensures ∙ c.in_ok-place.was) in omega (arith, at.0, at.1)
+
+pub returns-in_err-place : goal.returns-in_err-place
+returns-in_err-place c =
+    let past = none_place (sym c.in_default.ensures) in
+    let none = none_place (sym c.first_outside-2.ensures ∙ c.in_err-place.was) in
+    let is = height_outside c.args.kn.now c.args.km c.args.kg refl past refl in
+    c.from_residual.ensures ∙ sym (place_none (omega (arith, is, none)))
 
 pub returns : goal.returns
-returns c = height_outside _ _ _ c.cross_curve_outside-in_table.ensures c.if-in_table-kn.false c.heights_outside.ensures
+returns c =
+    let past = none_place (sym c.in_default.ensures) in
+    let at = some_place (sym c.first_outside-2.ensures ∙ c.in_ok-place.was) in
+    let is = height_outside c.args.kn.now c.args.km c.args.kg refl past at.0 in
+    place_told _ _ _ (omega (arith, is)) (omega (arith, at.0, at.1))

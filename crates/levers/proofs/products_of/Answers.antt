@@ -7,7 +7,7 @@ use Rattle.levers.proofs.Tabled.{sine_le, products_length, product_at}
 use Rattle.levers.proofs.products_of.Goals as goal
 
 pub loop-i-init : goal.loop-i-init
-loop-i-init c = (omega arith, stored_none _ _)
+loop-i-init c = stored_none _ _
 
 pub overflow_mul-kg : goal.overflow_mul-kg
 overflow_mul-kg c = product_fits c.requires (sine_le c.loop-i.i) tt
@@ -15,9 +15,9 @@ overflow_mul-kg c = product_fits c.requires (sine_le c.loop-i.i) tt
 pub loop-i-preserved : goal.loop-i-preserved
 loop-i-preserved c =
     let kg = c.args.kg in
-    (omega arith, stored_more _ _ c.loop-i.invariant.1 (omega (arith, products_length kg)) (omega arith) 0 (c.rounded_up.ensures ∙ sym (product_at kg c.loop-i.i)))
+    stored_more _ _ c.loop-i.invariant (omega (arith, products_length kg)) (omega arith) 0 (c.rounded_up.ensures ∙ sym (product_at kg c.loop-i.i))
 
 pub returns : goal.returns
 returns c =
     let kg = c.args.kg in
-    stored_full _ _ c.loop-i.invariant.1 (omega (arith, products_length kg)) (sym (products_length kg))
+    stored_full _ _ c.loop-i.invariant (omega (arith, products_length kg)) (sym (products_length kg))

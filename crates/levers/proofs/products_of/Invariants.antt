@@ -1,5 +1,4 @@
 -- The front of the table is filled so far; the table of sines is the definition's. Assumes nothing.
-use Prim.Native.Nat.{◌-◌, ◌≤◌}
 use lib.ListN.{replicate}
 use Rattle.arithmetic.proofs.Parts.{Stored}
 use Rattle.levers.specs.Levers.{products}
@@ -7,7 +6,4 @@ use Rattle.levers.specs.Sines.{angle_count}
 use Rattle.levers.proofs.products_of.Given as goal
 
 abbrev pub invariant-loop-i : goal.invariant-loop-i
-invariant-loop-i l = (l.i ≤ angle_count) × Stored (products l.kg) (replicate angle_count 0) l.off l.i
-
-abbrev pub decreases-loop-i : goal.decreases-loop-i
-decreases-loop-i l = angle_count - l.i
+invariant-loop-i l = Stored (products l.kg) (replicate angle_count 0) l.off l.i

@@ -1,50 +1,12 @@
--- Tables in range, sums of them, and numbers of either sign as two whole ones.
-use Rattle.std.specs.Prelude.{ℕ, ◌+◌, ◌-◌, ◌*◌, ◌≤◌, ◌<◌, ◌≡◌, List, ℤ, pos, ◌-ℤ◌, length, get_or}
-use Rattle.std.specs.Int.Signed.{lt_z}
-use Rattle.arithmetic.specs.Choice.{when◌then◌else◌}
-use Rattle.ranges.specs.Fields.{most, metacentre}
-use Rattle.simpson.specs.Curve.{curve}
-use Rattle.levers.specs.Sines.{angle_count}
-use Rattle.levers.specs.declared.Parts.{Parts}
+-- Numbers of either sign as two whole ones.
+use Rattle.std.specs.Prelude.{ℕ, ◌≡◌, List, ℤ, pos, ◌-ℤ◌, get_or}
+use Rattle.levers.specs.declared.parts.Parts.{Parts}
 
 -- what they come to
 abbrev pub value : Parts → ℤ
 value p = pos p.whole -ℤ pos p.off
 
--- a lever of two tables
-abbrev pub lever_parts : List ℕ → List ℕ → ℕ → Parts
-lever_parts kn off i = record { whole = get_or kn i 0; off = get_or off i 0 }
-
--- of two angles the one with the greater lever, and the first where they are alike
-abbrev pub greater_of : (ℕ → ℤ) → ℕ → ℕ → ℕ
-greater_of gz first i = when lt_z (gz first) (gz i) then i else first
-
--- the multiplied sum over a table from one angle to another, by number
-abbrev pub sum_over : List ℕ → ℕ → ℕ → ℕ
-sum_over table from to = curve (to - from) (λ i. get_or table (from + i) 0)
-
--- a number for each angle, and none larger than the highest metacentre
-pub record TableInRange (table : List ℕ) : Type 0 where
-  pub as_many : length table ≡ angle_count
-  pub none_higher : (i : ℕ) → get_or table i 0 ≤ most metacentre
-
-pub record Tables (kn off : List ℕ) : Type 0 where
-  pub of_kn : TableInRange kn
-  pub of_off : TableInRange off
-
--- two intervals or more, as far as the angles reach
-pub record Between (from to : ℕ) : Type 0 where
-  pub two : from + 2 ≤ to
-  pub within : to < angle_count
-
--- how large a multiplied sum can be, by the rectangle around it, and so every number of a profile
-abbrev pub most_sum : ℕ
-most_sum = most metacentre * (24 * angle_count)
-
-pub record Small (p : Parts) : Type 0 where
-  pub whole_most : p.whole ≤ most_sum
-  pub off_most : p.off ≤ most_sum
-
--- no rule asks for more, of mm, mm·rad or degrees
-abbrev pub least_most : ℕ
-least_most = 1_000
+-- they are a lever of two tables
+pub record IsLever (kn off : List ℕ) (i : ℕ) (p : Parts) : Type 0 where
+  pub whole_is : p.whole ≡ get_or kn i 0
+  pub off_is : p.off ≡ get_or off i 0

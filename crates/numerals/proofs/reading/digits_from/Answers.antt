@@ -1,46 +1,25 @@
 -- What was taken, with the digits still to come, is the whole; a digit more fits, since there are ten at the most. Assumes nothing.
-use Prim.Native.Nat.{◌^◌, ◌<◌}
-use mathlib.Core.Bool.{true}
-use mathlib.Core.Path.{◌≡◌, sym, ◌∙◌}
+use mathlib.Core.Path.{◌≡◌, subst}
 use native.Mathlib.Omega.{arith}
-use lib.ListN.{get_or}
-use Rattle.numerals.specs.Number.{is_digit, most_digits}
-use Rattle.numerals.proofs.Wholes.{digit_range}
-use Rattle.numerals.proofs.Taken.{taken_none, taken_more, taken_small, taken_all, other_to_come, past_end}
+use Rattle.numerals.specs.Private.Sign.{DigitsFrom}
+use Rattle.numerals.proofs.Taken.{taken_more, taken_all, other_to_come, past_end}
 use Rattle.numerals.proofs.reading.digits_from.Goals as goal
-use Rattle.numerals.proofs.reading.digits_from.Goals.{Else-not-is_digit}
 
--- in a turn that goes on, the byte is a digit, and the value leaves room for it
-digit : (c : Else-not-is_digit) → is_digit (get_or c.args.text.now c.loop-stop.stop 0) ≡ true
-digit c = sym c.is_digit.ensures ∙ c.if-not-is_digit.false
-
-small : (c : Else-not-is_digit) → c.loop-stop.value < 10 ^ most_digits
-small c = taken_small _ _ c.loop-stop.invariant.1 (omega arith)
-
-pub loop-stop-init : goal.loop-stop-init
-loop-stop-init c = (c.least-end.ensures, taken_none _ _)
-
-pub returns-then-not-is_digit : goal.returns-then-not-is_digit
-returns-then-not-is_digit c =
-    let other = sym c.is_digit.ensures ∙ c.if-not-is_digit.true in
-    taken_all _ _ (omega arith) c.loop-stop.invariant.1 (other_to_come _ _ _ (omega arith) other)
-
-pub overflow_mul-value : goal.overflow_mul-value
-overflow_mul-value c = omega (arith, small c)
-
-pub overflow_sub-value : goal.overflow_sub-value
-overflow_sub-value c = (digit_range _ (digit c)).0
-
-pub overflow_cast-value : goal.overflow_cast-value
-overflow_cast-value c = omega (arith, digit_range _ (digit c))
-
-pub overflow_add-value : goal.overflow_add-value
-overflow_add-value c = omega (arith, small c, digit_range _ (digit c))
+pub returns-then-not-is_ascii_digit : goal.returns-then-not-is_ascii_digit
+returns-then-not-is_ascii_digit c =
+    let no_digit = c.if-not-is_ascii_digit.ensures.cases in
+    taken_all _ _ (omega arith) c.loop-stop.invariant (other_to_come _ _ _ (omega arith) (λ low high. omega (arith, no_digit)))
 
 pub loop-stop-preserved : goal.loop-stop-preserved
 loop-stop-preserved c =
-    let inv = c.loop-stop.invariant in
-    (inv.0, taken_more _ _ (omega arith) (omega arith) (digit c) inv.1)
+    let digit = c.if-not-is_ascii_digit.ensures.cases in
+    rw c.from.ensures
+    (taken_more _ _ (omega arith) (omega arith) (omega (arith, digit)) (omega (arith, digit)) c.loop-stop.invariant)
 
 pub returns : goal.returns
-returns c = taken_all _ _ (omega arith) c.loop-stop.invariant.1 (past_end _ _ _ (omega arith))
+returns c =
+    let text = c.args.text.now in
+    let from = c.args.from in
+    let at_end : c.loop-stop.stop ≡ c.min-end.result = omega arith in
+    subst (λ stop. DigitsFrom text from (record { value = c.loop-stop.value; stop = stop })) at_end
+    (taken_all text from (omega arith) c.loop-stop.invariant (past_end text from _ (omega arith)))
