@@ -1,10 +1,10 @@
 -- What is answered, by the tests in the paper's order.
---     particulars_told, hull_told                                     no number outside: all are in range
+--     particulars_told, particulars_passed, hull_told                 no number outside: all are in range
 --     bad_particular_said, wrong_table, wrong_room, bad_half_breadth       the refusals before the rows
 --     rows_follow                                                     where none of them holds
 --     refuses, makes, refuses_at                                      the promise, of a refusal and where the rows follow
 -- Assumes nothing.
-use mathlib.Core.Path.{◌≡◌}
+use mathlib.Core.Path.{◌≡◌, sym}
 use mathlib.Core.List.{List, map}
 use Prim.Native.Nat.{ℕ, ◌+◌, ◌*◌, ◌≤◌, ◌<◌}
 use native.Mathlib.Omega.{arith}
@@ -21,7 +21,9 @@ use Rattle.ranges.specs.Sizes.{points_of, row_width, rows_over}
 use Rattle.ranges.specs.declared.Particulars.{Particulars}
 use Rattle.ranges.specs.declared.refusal.Reason.{Reason}
 use Rattle.ranges.specs.declared.refusal.Refusal.{Refusal}
-use Rattle.std.specs.Prelude.{Result, Err}
+use Rattle.std.specs.Prelude.{Result, None, Err}
+use Rattle.ranges.specs.Private.Bounds.{place_in}
+use Rattle.ranges.proofs.Outside.{none_place}
 use Rattle.ranges.proofs.Facts.{particulars_in_range, half_breadths_in_range}
 use Rattle.ranges.specs.Reasons.{number_of, paper}
 use Rattle.hydrostatics.specs.Promise.{MakesRows}
@@ -32,6 +34,9 @@ use Rattle.hydrostatics.specs.Private.Table.{FillsRows}
 
 pub particulars_told : {p : Particulars} {particular : ℕ} → particular ≡ bad_particular p → length particulars ≤ particular → ParticularsInRange p
 particulars_told {p} first a = particulars_in_range p (omega (arith, first))
+
+pub particulars_passed : {p : Particulars} → None ≡ place_in (length particulars) (bad_particular p) → ParticularsInRange p
+particulars_passed {p} none = particulars_in_range p (none_place (sym none))
 
 pub hull_told :
     {table : List ℕ} {p : Particulars} {place : ℕ}

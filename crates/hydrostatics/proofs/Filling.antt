@@ -2,14 +2,15 @@
 --     Filling                            its length, and what it holds after the first i stores
 --     filling_none, filling_more         before the first store; one store more, in the code's `i + 1`
 --     filling_all                        after the last
+--     filled_front                       and the part that is filled alone
 -- Assumes nothing.
 use mathlib.Core.Path.{◌≡◌, subst, ◌∙◌}
 use mathlib.Core.List.{List}
 use Prim.Native.Nat.{ℕ, ◌+◌, ◌<◌}
 use native.Mathlib.Omega.{arith}
 use borrow.Author.Count.{below_none, below_more}
-use lib.ListN.{length, get_or, set, length-set}
-use lib.Seq.{get_or-set_same, get_or-set_other}
+use lib.ListN.{length, get_or, take, set, length-set}
+use lib.Seq.{get_or-take, get_or-set_same, get_or-set_other}
 use Rattle.hydrostatics.specs.Private.Hull.{Filled}
 
 pub record Filling {A : Type 0} (none : A) (f : ℕ → A) (room i : ℕ) (l : List A) : Type 0 where
@@ -34,3 +35,6 @@ module _ {A : Type 0} {none : A} {f : ℕ → A} {room : ℕ} {l : List A} where
 
     pub filling_all : {n : ℕ} → i ≡ n → Filled none f n l
     filling_all e = subst (λ n. Filled none f n l) e so.so_far
+
+pub filled_front : {A : Type 0} {none : A} {f : ℕ → A} {n : ℕ} {l : List A} → Filled none f n l → Filled none f n (take n l)
+filled_front {none = none} {n = n} {l = l} so = record { at = λ k h. get_or-take n l k none h ∙ so.at k h }

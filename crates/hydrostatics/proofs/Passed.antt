@@ -74,9 +74,9 @@ module _ {row : ℕ → Row} {count made : ℕ} (so : TriedRows row count (Ok ma
   pub made_count : made ≡ count
   made_count = all.0
 
-  pub made_left : {was after : List ℕ} → after ≡ numbers_up_to row made ++ drop (row_width * made) was → FillsRows row count (Ok made) was after
+  pub made_left : {was after : List ℕ} → after ≡ numbers_up_to row count ++ drop (row_width * count) was → FillsRows row count (Ok made) was after
   unfolding left_with
-  made_left e = record { tried = so; left = rw (all.1, numbers_length row count, ← made_count) e }
+  made_left e = record { tried = so; left = rw (all.1, numbers_length row count) e }
 
 pub refused_left : {row : ℕ → Row} {count : ℕ} {r : Refusal} {was : List ℕ} → TriedRows row count (Err r) → FillsRows row count (Err r) was was
 refused_left {row} {count} {was = was} so =

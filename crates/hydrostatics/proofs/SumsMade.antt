@@ -1,9 +1,12 @@
 -- From the sums that an engine makes of a hull to the rows.
 --     sums_within, all_within      how large the sums of a row of a hull in range are, and those of all rows
 --     up_to_same                   equal rows come to the same
+--     made_front                   those of the rows alone
 --     fills_hull                   so what is filled from an engine's sums is the hull's rows
 -- Assumes nothing.
-use mathlib.Core.Path.{◌≡◌, refl, ap}
+use mathlib.Core.Path.{◌≡◌, refl, ap, ◌∙◌}
+use lib.ListN.{length, take}
+use Rattle.hydrostatics.proofs.Filling.{filled_front}
 use mathlib.Core.List.{List}
 use Prim.Native.Nat.{ℕ, zero, suc, ◌≤◌, ◌<◌}
 use native.Mathlib.Omega.{arith}
@@ -43,14 +46,18 @@ module _ {table : List ℕ} {p : Particulars} where
     c_most = C_most hull k;
   }
 
-  module _ {sums : List Sums} (made : MakesSums table p sums) where
+  module _ {sums : List Sums} (made : MakesSums table p sums) (all : length sums ≡ rows_over p.m) where
     pub all_within : InRange table p → AllWithin p sums
     all_within hull = record {
       particulars = hull.complete.particulars;
-      each = λ r h. rw (made.each.at r h) (sums_within hull (omega (arith, hull.complete.particulars.m_most)));
+      each = λ r h. rw (made.each.at r (omega (arith, all))) (sums_within hull (omega (arith, all, hull.complete.particulars.m_most)));
     }
 
-    pub fills_hull : {rows after : List ℕ} {answer : Result ℕ Refusal} → FillsRows (rows_from p sums) (rows_over p.m) answer rows after → FillsRows (row_of table p) (rows_over p.m) answer rows after
+    pub fills_hull : {rows after : List ℕ} {answer : Result ℕ Refusal} → FillsRows (rows_from p sums) (length sums) answer rows after → FillsRows (row_of table p) (rows_over p.m) answer rows after
     fills_hull filled =
-        let same = up_to_same (rows_from p sums) (row_of table p) (rows_over p.m) (λ r h. ap (row_from p (waterline_of r)) (made.each.at r h)) in
+        let same : rows_up_to (rows_from p sums) (length sums) ≡ rows_up_to (row_of table p) (rows_over p.m) = ap (rows_up_to (rows_from p sums)) all ∙ up_to_same (rows_from p sums) (row_of table p) (rows_over p.m) (λ r h. ap (row_from p (waterline_of r)) (made.each.at r h)) in
         record { tried = record { answer_is = rw same at filled.tried.answer_is }; left = rw same at filled.left }
+
+  -- the sums of the rows alone, of an array with room for all that there may be
+  pub made_front : {sums : List Sums} → MakesSums table p sums → MakesSums table p (take (rows_over p.m) sums)
+  made_front made = record { each = filled_front made.each }

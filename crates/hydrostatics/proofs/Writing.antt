@@ -4,13 +4,13 @@
 --     written_none, written_more, written_all          before the first row; one row more, by its part; after the last
 -- Assumes nothing.
 use mathlib.Core.Path.{◌≡◌, refl, ap, subst, ◌∙◌}
-use mathlib.Core.List.{List, ◌++◌}
-use Prim.Native.Nat.{ℕ, zero, suc, ◌+◌, ◌-◌, ◌*◌, ◌≤◌}
+use mathlib.Core.List.{List, ◌++◌, append_assoc}
+use Prim.Native.Nat.{ℕ, zero, suc, ◌+◌, ◌*◌, ◌≤◌}
 use native.Mathlib.Nat.{mul-suc}
 use native.Mathlib.Numerals.{add-one}
 use native.Mathlib.Omega.{arith}
 use lib.ListN.{length, take, drop, length-append, length-drop}
-use Rattle.arithmetic.proofs.Parts.{part_filled}
+use lib.Seq.{take_at, drop_at, drop-drop}
 use Rattle.ranges.specs.Sizes.{row_width}
 use Rattle.hydrostatics.specs.Row.{numbers_of}
 use Rattle.hydrostatics.specs.Private.Table.{numbers_up_to}
@@ -35,18 +35,20 @@ module _ {row : ℕ → Row} {was : List ℕ} where
   written_none = record { long = refl; so_far = refl }
 
   module _ {r : ℕ} {rows : List ℕ} (so : Written row was r rows) where
-    -- the part from 7r on came back with the row in front
+    -- the row's part, from 7r on, came back with the row in it
     pub written_more :
         {made : Row} → made ≡ row r
         → (back : List ℕ)
         → row_width * (r + 1) ≤ length was
-        → back ≡ numbers_of made ++ drop row_width (take (length rows - row_width * r) (drop (row_width * r) rows))
-        → Written row was (r + 1) (take (row_width * r) rows ++ (back ++ drop (length rows - row_width * r) (drop (row_width * r) rows)))
-    written_more is back h e =
+        → back ≡ numbers_of made
+        → {width : ℕ} → width ≡ row_width
+        → Written row was (r + 1) (take (row_width * r) rows ++ (back ++ drop width (drop (row_width * r) rows)))
+    written_more is back h e {width} w =
         let next : row_width * (r + 1) ≡ row_width * r + row_width = omega arith in
-        let whole = take (row_width * r) rows ++ (back ++ drop (length rows - row_width * r) (drop (row_width * r) rows)) in
-        let filled : whole ≡ numbers_up_to row (r + 1) ++ drop (row_width * (r + 1)) was =
-        rw (numbers_more row r, next) (part_filled (row_width * r) row_width (numbers_up_to row r) (numbers_of (row r)) rows was back (numbers_length row r) so.so_far (rw is at e)) in
+        let front : take (row_width * r) rows ≡ numbers_up_to row r = rw (so.so_far, take_at (numbers_up_to row r) (drop (row_width * r) was) (row_width * r) (numbers_length row r)) in
+        let behind : drop (row_width * r) rows ≡ drop (row_width * r) was = rw (so.so_far, drop_at (numbers_up_to row r) (drop (row_width * r) was) (row_width * r) (numbers_length row r)) in
+        let filled : take (row_width * r) rows ++ (back ++ drop width (drop (row_width * r) rows)) ≡ numbers_up_to row (r + 1) ++ drop (row_width * (r + 1)) was =
+        rw (numbers_more row r, next, front, behind, e, is, w, drop-drop, append_assoc) in
         record {
           long = ap length filled ∙ length-append (numbers_up_to row (r + 1)) (drop (row_width * (r + 1)) was) ∙ omega (arith, numbers_length row (r + 1), length-drop (row_width * (r + 1)) was);
           so_far = filled;

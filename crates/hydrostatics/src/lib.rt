@@ -89,63 +89,40 @@ impl Row {
     }
 }
 
-// How the sums of a hull's rows are worked: waterline by waterline, or station by station as a surveyor does.
-#[derive(Clone, Copy)]
-enum Engine {
-    Waterplanes,
-    Sections,
-}
-
-// The five sums of every row of a complete hull, the same by either; none where a half-breadth is out of range, which the
-// waterplanes find as they are swept.
-fn sums_by(engine: Engine, half_breadths: &[u64], p: Particulars) -> Option<[Sums; MOST_ROWS]>
-    requires { Complete half_breadths.now p }
-    ensures { TriedSums half_breadths.now p result }
-{
-    match engine {
-        Engine::Waterplanes => waterplanes::hull_sums(half_breadths, p),
-        Engine::Sections => {
-            if ranges::first_outside(half_breadths, Record::HalfBreadth).is_some() {
-                return None;
-            }
-            Some(sections::hull_sums(half_breadths, p))
-        }
-    }
-}
-
-// The rows of a hull into the lent table, by either.
-fn make_by(
-    engine: Engine,
+// The rows of a hull into the lent table, by any way of making the sums of a complete one.
+fn make_by<F: Fn(&[u64], Particulars) -> Option<[Sums; MOST_ROWS]>>(
+    sums_of: F,
     half_breadths: &[u64],
     p: Particulars,
     rows: &mut [u64],
 ) -> Result<usize, Refusal>
+    requires can { Complete half_breadths.now p → F.pre sums_of half_breadths p }
+    requires makes { (sums : _) → F.post sums_of half_breadths p sums → TriedSums half_breadths.now p sums }
     ensures { MakesRows half_breadths.now p rows.old rows.new result }
 {
     if let Some(place) = ranges::bad_particular(p) {
         return Err(Reason::OutOfRange.at(place));
     }
-    let n = p.n;
-    let m = p.m;
-    if half_breadths.len() != (n + 1) * (m + 1) {
+    if half_breadths.len() != (p.n + 1) * (p.m + 1) {
         return Err(Reason::WrongSize.at(Refusal::HALF_BREADTH_TABLE));
     }
-    if rows.len() < ROW_WIDTH * (m - 1) {
+    let count = p.m - 1;
+    if rows.len() < ROW_WIDTH * count {
         return Err(Reason::WrongSize.at(Refusal::ROW_TABLE));
     }
-    let Some(sums) = sums_by(engine, half_breadths, p) else {
+    let Some(sums) = sums_of(half_breadths, p) else {
         // The first one out of range is looked for only where there is one.
         let outside = ranges::first_outside(half_breadths, Record::HalfBreadth).unwrap();
         return Err(Reason::OutOfRange.at(Refusal::HALF_BREADTHS_AT + outside));
     };
-    fill_rows(p, sums, rows)
+    fill_rows(p, &sums[..count], rows)
 }
 
 // The rows of a hull into the lent table.
 pub fn make_rows(half_breadths: &[u64], p: Particulars, rows: &mut [u64]) -> Result<usize, Refusal>
     ensures { MakesRows half_breadths.now p rows.old rows.new result }
 {
-    make_by(Engine::Waterplanes, half_breadths, p, rows)
+    make_by(waterplanes::hull_sums, half_breadths, p, rows)
 }
 
 // The same rows by the plain calculation that a surveyor follows: station areas first, and then along the length.
@@ -156,7 +133,7 @@ pub fn make_rows_by_sections(
 ) -> Result<usize, Refusal>
     ensures { MakesRows half_breadths.now p rows.old rows.new result }
 {
-    make_by(Engine::Sections, half_breadths, p, rows)
+    make_by(sections::hull_sums, half_breadths, p, rows)
 }
 
 // A metre in mm, which is also a tonne in kg, and a square metre in mm².

@@ -2,13 +2,13 @@
 // waterline, then the stations' along the length.
 ghost use Rattle.std.specs.Prelude.{◌≡◌, ◌≤◌};
 ghost use Rattle.hydrostatics.specs.Row.{sums_at, waterline_of};
-ghost use Rattle.hydrostatics.specs.Private.Hull.{InRange};
+ghost use Rattle.hydrostatics.specs.Private.Hull.{Complete, InRange};
 ghost use Rattle.hydrostatics.specs.Private.Sections.{curve_from, curve_of, moment_of, Covers, Summable, Balanced, SectionOf, SectionsOf};
-ghost use Rattle.hydrostatics.specs.Private.Sums.{MakesSums};
+ghost use Rattle.hydrostatics.specs.Private.Sums.{MakesSums, TriedSums};
 
 use crate::MOST_ROWS;
 use crate::table::{FIRST_WATERLINE, NO_SUMS, Sums};
-use ranges::{MOST_STATIONS, Particulars};
+use ranges::{MOST_STATIONS, Particulars, Record};
 use simpson::{
     FIRST_BETWEEN, FIRST_END, FIRST_INTERVALS, SECOND_BETWEEN, SECOND_END, SECOND_INTERVALS,
 };
@@ -72,14 +72,11 @@ fn moment_sum(ordinates: &[u64]) -> u64
     requires { Balanced ordinates.now }
     ensures { result ≡ moment_of ordinates.now }
 {
-    let count = ordinates.len();
     let mut moments = [0u64; MOST_STATIONS];
-    let mut i: usize = 0;
-    while i < count {
-        moments[i] = ordinates[i] * i as u64;
-        i += 1;
+    for (i, ordinate) in ordinates.iter().enumerate() {
+        moments[i] = *ordinate * i as u64;
     }
-    curve_sum(&moments[..count])
+    curve_sum(&moments[..ordinates.len()])
 }
 
 // Station i up to waterline k.
@@ -104,20 +101,17 @@ fn sections_at(table: &[u64], p: Particulars, k: usize) -> Sections
     requires { (InRange table.now p) × (waterline_of 0 ≤ k) × (k ≤ p.m) }
     ensures { SectionsOf table.now p k result }
 {
-    let n = p.n;
     let mut areas = [0u64; MOST_STATIONS];
     let mut moments = [0u64; MOST_STATIONS];
     let mut half_breadths = [0u64; MOST_STATIONS];
     let mut cubes = [0u64; MOST_STATIONS];
-    let mut i: usize = 0;
-    while i <= n {
+    for i in 0..p.n + 1 {
         let section = section_at(table, p, i, k);
         let y = section.half_breadth;
         areas[i] = section.area;
         moments[i] = section.moment;
         half_breadths[i] = y;
         cubes[i] = y * y * y;
-        i += 1;
     }
     Sections {
         areas,
@@ -133,11 +127,12 @@ fn sums_at(table: &[u64], p: Particulars, k: usize) -> Sums
     ensures { result ≡ sums_at table.now p k }
 {
     let stations = p.n + 1;
-    let sections = sections_at(table, p, k);
-    let areas = sections.areas;
-    let moments = sections.moments;
-    let half_breadths = sections.half_breadths;
-    let cubes = sections.cubes;
+    let Sections {
+        areas,
+        moments,
+        half_breadths,
+        cubes,
+    } = sections_at(table, p, k);
     Sums {
         sum: curve_sum(&areas[..stations]),
         sz: curve_sum(&moments[..stations]),
@@ -148,16 +143,24 @@ fn sums_at(table: &[u64], p: Particulars, k: usize) -> Sums
 }
 
 // The five sums of every row of a hull in range.
-pub(crate) fn hull_sums(table: &[u64], p: Particulars) -> [Sums; MOST_ROWS]
+fn sums_of_rows(table: &[u64], p: Particulars) -> [Sums; MOST_ROWS]
     requires { InRange table.now p }
     ensures { MakesSums table.now p result }
 {
-    let count = p.m - 1;
     let mut sums = [NO_SUMS; MOST_ROWS];
-    let mut r: usize = 0;
-    while r < count {
+    for r in 0..p.m - 1 {
         sums[r] = sums_at(table, p, r + FIRST_WATERLINE);
-        r += 1;
     }
     sums
+}
+
+// The five sums of every row of a complete hull, whose half-breadths are tried first; none where one is out of range.
+pub(crate) fn hull_sums(table: &[u64], p: Particulars) -> Option<[Sums; MOST_ROWS]>
+    requires { Complete table.now p }
+    ensures { TriedSums table.now p result }
+{
+    if ranges::first_outside(table, Record::HalfBreadth).is_some() {
+        return None;
+    }
+    Some(sums_of_rows(table, p))
 }

@@ -7,7 +7,7 @@ ghost use Rattle.hydrostatics.specs.Row.{row_from, numbers_of};
 ghost use Rattle.hydrostatics.specs.Private.Sums.{SumsWithin, AllWithin};
 ghost use Rattle.hydrostatics.specs.Private.Table.{numbers_up_to, rows_from, TriedRows, FillsRows};
 
-use crate::{MOST_ROWS, ROW_WIDTH, Row};
+use crate::{ROW_WIDTH, Row};
 use ranges::{HIGHEST_METACENTRE, Particulars, Reason, Refusal};
 
 // The five sums that the row of a waterline is made of: S, Sz and Sx over its waterlines, Q and C of its own.
@@ -78,67 +78,44 @@ fn row_from(p: Particulars, k: usize, sums: Sums) -> Row
     }
 }
 
-// Every row made and tried, row by row upward.
-fn try_rows(p: Particulars, sums: [Sums; MOST_ROWS]) -> Result<usize, Refusal>
-    requires { AllWithin p sums }
-    ensures { TriedRows (rows_from p sums) (rows_over p.m) result }
+// The rows of these sums made and tried, row by row upward.
+fn try_rows(p: Particulars, sums: &[Sums]) -> Result<usize, Refusal>
+    requires { AllWithin p sums.now }
+    ensures { TriedRows (rows_from p sums.now) (length sums.now) result }
 {
-    let all = p.m - 1;
     let mut before: u64 = 0;
-    let mut r: usize = 0;
-    while r < all {
-        let row = row_from(p, r + FIRST_WATERLINE, sums[r]);
-        let displacement = row.displacement;
-        if displacement <= before {
+    for (r, five) in sums.iter().enumerate() {
+        let row = row_from(p, r + FIRST_WATERLINE, *five);
+        if row.displacement <= before {
             return Err(Reason::DisplacementNotRising.at(r));
         }
         if HIGHEST_METACENTRE < row.km {
             return Err(Reason::MetacentreTooHigh.at(r));
         }
-        before = displacement;
-        r += 1;
+        before = row.displacement;
     }
-    Ok(all)
+    Ok(sums.len())
 }
 
-// One row, into the front of the part of the table that it is lent.
-fn write_row(row: Row, part: &mut [u64])
-    requires { row_width ≤ length part.old }
-    ensures { part.new ≡ numbers_of row ++ drop row_width part.old }
+// Each row made, into the part of the table that starts at seven times its number.
+fn write_rows(p: Particulars, sums: &[Sums], rows: &mut [u64])
+    requires { AllWithin p sums.now × (row_width * length sums.now ≤ length rows.old) }
+    ensures { rows.new ≡ numbers_up_to (rows_from p sums.now) (length sums.now) ++ drop (row_width * length sums.now) rows.old }
 {
-    part[0] = row.draft;
-    part[1] = row.displacement;
-    part[2] = row.lcb;
-    part[3] = row.kb;
-    part[4] = row.bm;
-    part[5] = row.km;
-    part[6] = row.area;
-}
-
-// Each of the first `count` rows made, into the part of the table that starts at seven times its number.
-fn write_rows(p: Particulars, sums: [Sums; MOST_ROWS], count: usize, rows: &mut [u64])
-    requires { AllWithin p sums × (count ≤ rows_over p.m) × (row_width * count ≤ length rows.old) }
-    ensures { rows.new ≡ numbers_up_to (rows_from p sums) count ++ drop (row_width * count) rows.old }
-{
-    let mut r: usize = 0;
-    while r < count {
-        let made = row_from(p, r + FIRST_WATERLINE, sums[r]);
+    // By the place and not by `chunks_exact_mut`, after which a proof knows no number of the table.
+    for (r, five) in sums.iter().enumerate() {
+        let made = row_from(p, r + FIRST_WATERLINE, *five);
         let at = ROW_WIDTH * r;
-        write_row(made, &mut rows[at..]);
-        r += 1;
+        rows[at..at + ROW_WIDTH].copy_from_slice(&made.numbers());
     }
 }
 
 // The rows of these sums: tried first, with the table untouched, and written once all have passed.
-pub(crate) fn fill_rows(
-    p: Particulars,
-    sums: [Sums; MOST_ROWS],
-    rows: &mut [u64],
-) -> Result<usize, Refusal>
-    requires { AllWithin p sums × (row_width * rows_over p.m ≤ length rows.old) }
-    ensures { FillsRows (rows_from p sums) (rows_over p.m) result rows.old rows.new }
+pub(crate) fn fill_rows(p: Particulars, sums: &[Sums], rows: &mut [u64]) -> Result<usize, Refusal>
+    requires { AllWithin p sums.now × (row_width * length sums.now ≤ length rows.old) }
+    ensures { FillsRows (rows_from p sums.now) (length sums.now) result rows.old rows.new }
 {
     let count = try_rows(p, sums)?;
-    write_rows(p, sums, count, rows);
+    write_rows(p, sums, rows);
     Ok(count)
 }

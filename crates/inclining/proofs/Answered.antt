@@ -12,6 +12,7 @@ use lib.Dec.{ltb}
 use lib.IntN.{ℤ, pos, nat_abs}
 use lib.ListN.{length}
 use lib.Signed.{le_z}
+use Rattle.std.specs.Prelude.{Ok}
 use Rattle.arithmetic.specs.Rounding.{rounded_up}
 use Rattle.arithmetic.specs.Signed.{is_negative}
 use Rattle.arithmetic.proofs.Crossing.{less_whole}
@@ -26,7 +27,6 @@ use Rattle.inclining.specs.Inclining.{shift_table, off_table, on_table, gm_table
 use Rattle.inclining.specs.Light.{light_weight, light_moment, light_ship, lightened}
 use Rattle.inclining.specs.Measured.{shifts_of, gm_measured, own_gms}
 use Rattle.inclining.specs.Private.Heeling.{laid_over}
-use Rattle.inclining.specs.declared.Answer.TheVariants.{Found}
 use Rattle.inclining.specs.declared.LightShip.{LightShip}
 use Rattle.inclining.specs.declared.Test.{Test}
 use Rattle.inclining.proofs.Lightening.{none_left, size_is, aboard, added, deducted, weight_is, moment_is}
@@ -79,7 +79,7 @@ module _ (test : Test) (shifts : List ℕ) (off on : List ℤ) where
     pub is_in_range : Inside test shifts off on
     pub light : Lightened test (totals_of_items off) (totals_of_items on) (gm_measured test (shifts_of shifts)) ship
 
-  pub found_told : {gms after : List ℕ} {ship : LightShip} → MakesLightShip test shifts off on gms after (Found ship) → Told (length gms) ship × (after ≡ laid_over (own_gms test (shifts_of shifts)) gms)
+  pub found_told : {gms after : List ℕ} {ship : LightShip} → MakesLightShip test shifts off on gms after (Ok ship) → Told (length gms) ship × (after ≡ laid_over (own_gms test (shifts_of shifts)) gms)
   unfolding inclined_of
   found_told {gms} {ship} made =
       let whole = with_answered (λ i. i.light) (inclined_of test shifts off on (length gms)) (sym made.answer_is) in

@@ -15,15 +15,15 @@ use lib.ListN.{length}
 use Rattle.arithmetic.proofs.Ring.{ring}
 use Rattle.arithmetic.proofs.Rounding.{down_of}
 use Rattle.ranges.specs.Outcome.{refused, answer_with, left_with}
-use Rattle.ranges.specs.declared.Refusal.{Refusal}
+use Rattle.std.specs.Prelude.{Ok, Err}
+use Rattle.ranges.specs.Reasons.{number_of, paper}
+use Rattle.ranges.specs.declared.refusal.Refusal.{Refusal}
 use Rattle.loading.specs.Items.{totals_of_items}
 use Rattle.loading.specs.declared.Totals.{Totals}
-use Rattle.inclining.specs.Inclining.{count, outside, inclined, inclined_of, paper, MakesLightShip}
+use Rattle.inclining.specs.Inclining.{count, outside, inclined, inclined_of, MakesLightShip}
 use Rattle.inclining.specs.Light.{lightened}
 use Rattle.inclining.specs.Measured.{shifts_of, unrounded_gm, gm_measured, own_gms}
-use Rattle.inclining.specs.Private.Heeling.{wrong_table, heeling_by, gm_by, laid_over, most_righting, TestInRange, ShiftsInRange, HeelingInRange, ListFits}
-use Rattle.inclining.specs.declared.Answer.{Answer}
-use Rattle.inclining.specs.declared.Answer.TheVariants.{Found, Refused}
+use Rattle.inclining.specs.Private.Heeling.{table_count, wrong_table, heeling_by, gm_by, laid_over, most_righting, TestInRange, ShiftsInRange, HeelingInRange, ListFits}
 use Rattle.inclining.specs.declared.Heeling.{Heeling}
 use Rattle.inclining.specs.declared.LightShip.{LightShip}
 use Rattle.inclining.specs.declared.Test.{Test}
@@ -56,30 +56,30 @@ module _ (test : Test) (shifts : List ℕ) (off on : List ℤ) (gms : List ℕ) 
     pub sizes : Sized (length shifts) (length off) (length on) (length gms)
     pub so_far : inclined test shifts off on ≡ inclined_of test shifts off on (length gms)
 
-  pub tried : {table place : ℕ} → table ≡ wrong_table (length shifts) (length off) (length on) (length gms) → 4 ≤ table → place ≡ outside test shifts off on → count shifts off on ≤ place → Tried
-  tried t all p none =
-      let size = sized (length shifts) (length off) (length on) (length gms) (omega (arith, t)) in
-      let so = inside test shifts off on (omega (arith, p)) in
+  pub tried : table_count ≤ wrong_table (length shifts) (length off) (length on) (length gms) → count shifts off on ≤ outside test shifts off on → Tried
+  tried all none =
+      let size = sized (length shifts) (length off) (length on) (length gms) all in
+      let so = inside test shifts off on none in
       record {
         test_fits = test_in_range test shifts off on so;
         shifts_are_fit = shifts_in_range test shifts off on (length gms) size so;
         off_fit = off_fits test shifts off on (length gms) size so;
         on_fit = on_fits test shifts off on (length gms) size so;
         sizes = size;
-        so_far = then_lightened test shifts off on (length gms) size p none;
+        so_far = then_lightened test shifts off on (length gms) size refl none;
       }
 
   -- ---- what is promised
-  pub kept : {number place : ℕ} {answer : Answer} → answer ≡ Refused (record { number = number; place = place }) → refused number place ≡ inclined_of test shifts off on (length gms) → MakesLightShip test shifts off on gms gms answer
+  pub kept : {r s : Refusal} → r ≡ s → refused (number_of s.reason) s.place ≡ inclined_of test shifts off on (length gms) → MakesLightShip test shifts off on gms gms (Err r)
   unfolding answer_with left_with
-  kept a e = record { answer_is = ap paper a ∙ ap (answer_with (λ i. i.light)) e; left = ap (λ o. left_with (λ i. i.gms) o gms) e }
+  kept a e = record { answer_is = ap (λ r. paper (Err r)) a ∙ ap (answer_with (λ i. i.light)) e; left = ap (λ o. left_with (λ i. i.gms) o gms) e }
 
   module _ (so : Tried) where
-    pub declined : {r : Refusal} → paper (Refused r) ≡ lightened test (totals_of_items off) (totals_of_items on) (gm_measured test (shifts_of shifts)) → MakesLightShip test shifts off on gms gms (Refused r)
+    pub declined : {r : Refusal} → paper (Err r) ≡ lightened test (totals_of_items off) (totals_of_items on) (gm_measured test (shifts_of shifts)) → MakesLightShip test shifts off on gms gms (Err r)
     unfolding answer_with
     declined e = kept refl (ap (answer_with (λ ship. record { gms = own_gms test (shifts_of shifts); light = ship })) e ∙ so.so_far)
 
-    pub made : {ship : LightShip} {after : List ℕ} → paper (Found ship) ≡ lightened test (totals_of_items off) (totals_of_items on) (gm_measured test (shifts_of shifts)) → after ≡ laid_over (own_gms test (shifts_of shifts)) gms → MakesLightShip test shifts off on gms after (Found ship)
+    pub made : {ship : LightShip} {after : List ℕ} → paper (Ok ship) ≡ lightened test (totals_of_items off) (totals_of_items on) (gm_measured test (shifts_of shifts)) → after ≡ laid_over (own_gms test (shifts_of shifts)) gms → MakesLightShip test shifts off on gms after (Ok ship)
     unfolding answer_with left_with
     made e a =
         let o = ap (answer_with (λ ship. record { gms = own_gms test (shifts_of shifts); light = ship })) e ∙ so.so_far in

@@ -1,6 +1,7 @@
 -- The shifts of a table, one after another.
 --     shifts_next                                   the next shift
 --     shift_count_is                                   how many there are
+--     shift_of_record                               the shift at a place, as the code reads it: a record of three numbers
 --     Every, each_in_range                          what holds of each of them: its numbers are in range
 --     heeling_one, heeling_in_range                 what they come to is in range, of one and of all
 --     Heeled, heeled_none, heeled_more, heeled_all  the walk that adds them up
@@ -14,7 +15,9 @@ use Prim.Native.Nat.{ℕ, zero, suc, ◌+◌, ◌*◌, ◌/◌, ◌%◌, ◌≤�
 use native.Mathlib.Nat.{add-zero, mul-le-mul}
 use native.Mathlib.Omega.{arith}
 use lib.IntN.{pos}
-use lib.ListN.{length, drop, get_or, set, length-map, drop_of_length-le}
+use lib.ListN.{length, take, drop, get_or, set, length-map, length-drop, drop_of_length-le}
+use lib.Seq.{get_or-take, get_or-drop}
+use Rattle.std.specs.Simd.{first_chunks}
 use Rattle.arithmetic.proofs.Parts.{drop_step, Stored, stored_none, stored_more, stored_all}
 use Rattle.ranges.specs.Fields.{most, shift, shift_weight, shift_distance, shift_deflection}
 use Rattle.ranges.specs.Outside.{first_outside}
@@ -43,6 +46,27 @@ shift_count_is (weight ∷ distance ∷ deflection ∷ rest) = omega (arith, shi
 shift_count_is (weight ∷ distance ∷ []) = refl
 shift_count_is (weight ∷ []) = refl
 shift_count_is [] = refl
+
+module _ (s : List ℕ) (i : ℕ) where
+  same_shift : (a : List ℕ) (k : ℕ) → get_or a k 0 ≡ get_or s i 0 → get_or a (k + 1) 0 ≡ get_or s (i + 1) 0 → get_or a (k + 2) 0 ≡ get_or s (i + 2) 0 → shift_at a k ≡ shift_at s i
+  same_shift a k w d f = λ j. record { weight = w j; distance = d j; deflection = f j }
+
+record_at : (s : List ℕ) (i count : ℕ) → i < count → shift_width * count ≤ length s → shift_at (get_or (first_chunks shift_width count s) i []) 0 ≡ shift_at s (shift_width * i)
+record_at s i zero h k = absurd (omega arith)
+record_at s zero (suc count) h k =
+    same_shift s 0 (take shift_width s) 0 (get_or-take shift_width s 0 0 (omega arith)) (get_or-take shift_width s 1 0 (omega arith)) (get_or-take shift_width s 2 0 (omega arith))
+record_at s (suc i) (suc count) h k =
+    let next : shift_width + shift_width * i ≡ shift_width * suc i = omega arith in
+    let one : shift_width + (shift_width * i + 1) ≡ shift_width * suc i + 1 = omega arith in
+    let two : shift_width + (shift_width * i + 2) ≡ shift_width * suc i + 2 = omega arith in
+    record_at (drop shift_width s) i count (omega arith) (omega (arith, length-drop shift_width s))
+    ∙ same_shift s (shift_width * suc i) (drop shift_width s) (shift_width * i)
+    (get_or-drop shift_width s (shift_width * i) 0 ∙ ap (λ j. get_or s j 0) next)
+    (get_or-drop shift_width s (shift_width * i + 1) 0 ∙ ap (λ j. get_or s j 0) one)
+    (get_or-drop shift_width s (shift_width * i + 2) 0 ∙ ap (λ j. get_or s j 0) two)
+
+pub shift_of_record : (s : List ℕ) {records : List (List ℕ)} → records ≡ first_chunks shift_width (length s / shift_width) s → (i : ℕ) → i < length s / shift_width → shift_at (get_or records i []) 0 ≡ shift_at s (shift_width * i)
+shift_of_record s e i h = rw e (record_at s i (length s / shift_width) h (omega arith))
 
 -- ---- each in range
 abbrev pub Every : (Shift → Type 0) → List Shift → Type 0

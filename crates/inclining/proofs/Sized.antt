@@ -1,32 +1,32 @@
 -- The sizes of the lent tables.
---     shifts_by, shifts_odd, shifts_told         so many numbers as shifts
+--     shifts_by, shifts_told                     so many numbers as shifts
 --     wrong_shifts, wrong_off, wrong_on, short_room, none_wrong      the first table of a wrong size
+--     table_told                                 the table as the code answers it
 --     Sized, sized                               what it tells that none is
 -- Assumes nothing.
 use mathlib.Core.Path.{◌≡◌, sym, ap, ◌∙◌}
 use mathlib.Core.Bool.{Bool, true, false, ◌&&◌}
 use Prim.Native.Nat.{ℕ, ◌/◌, ◌%◌, ◌≤◌, ◌<◌}
 use native.Mathlib.Omega.{arith}
-use borrow.Author.Tests.{eq-eqb, ne_eqb, eqb-true, lt-ltb, le-ltb, ltb-true, ltb-false}
+use borrow.Author.Tests.{eq-eqb, eqb-true, lt-ltb, le-ltb, ltb-true, ltb-false}
 use lib.Dec.{eqb, ltb}
 use lib.IntN.{pos}
 use Rattle.arithmetic.proofs.Choice.{chosen}
 use Rattle.arithmetic.proofs.Tests.{both, by_test}
 use Rattle.ranges.specs.Fields.{within, least, most}
 use Rattle.ranges.specs.Sizes.{shift_width}
+use Rattle.ranges.specs.Private.Bounds.{place_in}
 use Rattle.ranges.proofs.Facts.{within_whole}
+use Rattle.ranges.proofs.Outside.{place_some}
+use Rattle.std.specs.Prelude.{Some}
 use Rattle.inclining.specs.Inclining.{shift_count, shifts_fit, items_fit, shift_table, off_table, on_table, gm_table}
-use Rattle.inclining.specs.Private.Heeling.{wrong_table}
+use Rattle.inclining.specs.Private.Heeling.{table_count, wrong_table}
 
 -- ---- shifts
 module _ (count : ℕ) where
   pub shifts_by : {r : Bool} → count % shift_width ≡ 0 → r ≡ within shift_count (pos (count / shift_width)) → r ≡ shifts_fit count
   unfolding shifts_fit
   shifts_by whole e = e ∙ sym (ap (λ t. t && within shift_count (pos (count / shift_width))) (eq-eqb (count % shift_width) 0 whole))
-
-  pub shifts_odd : (count % shift_width ≡ 0 → ⊥) → false ≡ shifts_fit count
-  unfolding shifts_fit
-  shifts_odd odd = sym (ap (λ t. t && within shift_count (pos (count / shift_width))) (ne_eqb (count % shift_width) 0 odd))
 
   pub shifts_told : shifts_fit count ≡ true → (count % shift_width ≡ 0) × (least shift_count ≤ count / shift_width) × (count / shift_width ≤ most shift_count)
   unfolding shifts_fit
@@ -66,7 +66,11 @@ module _ (shifts off on room : ℕ) where
         unfolding wrong_table
         none_wrong h = sym (simp (s, f, n, le-ltb room (shifts / shift_width) h, chosen))
 
-  pub sized : 4 ≤ wrong_table shifts off on room → Sized
+  -- the table as the code answers it
+  pub table_told : {table : ℕ} → table ≡ wrong_table shifts off on room → table < table_count → Some table ≡ place_in table_count (wrong_table shifts off on room)
+  table_told e l = ap Some e ∙ sym (place_some (omega (arith, e)))
+
+  pub sized : table_count ≤ wrong_table shifts off on room → Sized
   sized all =
       by_test (shifts_fit shifts)
       (λ s. by_test (items_fit off)

@@ -15,8 +15,8 @@ use Rattle.loading.specs.Items.{totals_of_items}
 use Rattle.inclining.specs.Inclining.{numbers_of, MakesLightShip}
 use Rattle.inclining.specs.Light.{with_surface}
 use Rattle.inclining.specs.Measured.{shifts_of, unrounded_gm, gm_measured}
-use Rattle.inclining.specs.declared.Answer.{Answer}
-use Rattle.inclining.specs.declared.Answer.TheVariants.{Found}
+use Rattle.std.specs.Prelude.{Result, Ok}
+use Rattle.ranges.specs.declared.refusal.Refusal.{Refusal}
 use Rattle.inclining.specs.declared.LightShip.{LightShip}
 use Rattle.inclining.specs.declared.Test.{Test}
 use Rattle.inclining.proofs.Answered.{Lightened, found_told}
@@ -50,9 +50,9 @@ module _ (test : Test) {surface surface' : ℕ} (less : surface ≤ surface') (s
   unfolding gm_measured unrounded_gm
   same_gm = refl
 
-  module _ (off on : List ℤ) {gms after gms' after' : List ℕ} {answer : Answer} {ship' : LightShip}
-      (found : MakesLightShip larger shifts off on gms' after' (Found ship')) (made : MakesLightShip smaller shifts off on gms after answer) (room : length gms ≡ length gms') where
-    pub less_surface : (ship : LightShip) × (answer ≡ Found ship) × MoreSurface ship ship'
+  module _ (off on : List ℤ) {gms after gms' after' : List ℕ} {answer : Result LightShip Refusal} {ship' : LightShip}
+      (found : MakesLightShip larger shifts off on gms' after' (Ok ship')) (made : MakesLightShip smaller shifts off on gms after answer) (room : length gms ≡ length gms') where
+    pub less_surface : (ship : LightShip) × (answer ≡ Ok ship) × MoreSurface ship ship'
     less_surface =
         let told = (found_told larger shifts off on found).0 in
         let light : Lightened larger (totals_of_items off) (totals_of_items on) (gm_measured smaller (shifts_of shifts)) ship' = rw same_gm at told.light in
@@ -60,5 +60,5 @@ module _ (test : Test) {surface surface' : ℕ} (less : surface ≤ surface') (s
         let inside : Inside smaller shifts off on =
         record { in_test = in_test told.is_in_range.in_test; in_table = told.is_in_range.in_table; in_off = told.is_in_range.in_off; in_on = told.is_in_range.in_on } in
         let answered = else_found made sizes inside light.some (omega (arith, light.not_below)) in
-        let again : MakesLightShip smaller shifts off on gms after (Found answered.0) = subst (MakesLightShip smaller shifts off on gms after) answered.1 made in
+        let again : MakesLightShip smaller shifts off on gms after (Ok answered.0) = subst (MakesLightShip smaller shifts off on gms after) answered.1 made in
         (answered.0, answered.1, more_surface test less (found_told smaller shifts off on again).0.light light)

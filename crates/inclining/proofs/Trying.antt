@@ -1,5 +1,6 @@
 -- The tests, in the paper's order.
 --     test_outside, shift_outside, off_outside, on_outside      where the first number out of range stands
+--     place_told                                                the place as the code answers it
 --     Inside, inside                                            what it tells that none is
 --     refused_size, refused_range, then_lightened               what the call comes to, test by test
 -- Assumes nothing.
@@ -19,7 +20,9 @@ use Rattle.ranges.specs.Outside.{first_outside, outside_then}
 use Rattle.ranges.specs.Refusals.{out_of_range, wrong_size}
 use Rattle.ranges.specs.Sizes.{shift_width}
 use Rattle.ranges.proofs.Facts.{all_within, within_whole}
-use Rattle.ranges.proofs.Outside.{outside_le, then_within, then_after, then_inside}
+use Rattle.ranges.proofs.Outside.{outside_le, then_within, then_after, then_inside, place_some}
+use Rattle.ranges.specs.Private.Bounds.{place_in}
+use Rattle.std.specs.Prelude.{Some}
 use Rattle.loading.specs.Items.{totals_of_items}
 use Rattle.loading.proofs.Itemised.{items_fitting, items_most}
 use Rattle.inclining.specs.Inclining.{shifts_fit, items_fit, numbers_of, count, outside, inclined, inclined_of}
@@ -64,6 +67,10 @@ module _ (test : Test) (shifts : List ℕ) (off on : List ℤ) where
 
         pub on_outside : length off ≤ t → {u : ℕ} → u ≡ first_outside item on → length inclining + length shifts + length off + u ≡ outside test shifts off on
         on_outside h k = omega (arith, after_shifts, k, then_after item off (first_outside item on) (omega (arith, g)))
+
+  -- the place as the code answers it
+  pub place_told : {place : ℕ} → place ≡ outside test shifts off on → place < count shifts off on → Some place ≡ place_in (count shifts off on) (outside test shifts off on)
+  place_told e l = ap Some e ∙ sym (place_some (omega (arith, e)))
 
   -- ---- none is outside
   pub record Inside : Type 0 where

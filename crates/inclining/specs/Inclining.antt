@@ -1,16 +1,16 @@
 -- What the call that makes the light ship comes to: "7 .., 4 in the sheet's order with the number's position from 0 as place, then 20 .., 21".
-use Rattle.std.specs.Prelude.{ℕ, ◌+◌, ◌/◌, ◌%◌, ◌≡◌, Bool, not, ◌&&◌, List, [], ◌∷◌, map, eqb, ltb, ℤ, pos, length}
+use Rattle.std.specs.Prelude.{ℕ, ◌+◌, ◌/◌, ◌%◌, ◌≡◌, Bool, not, ◌&&◌, List, [], ◌∷◌, map, eqb, ltb, ℤ, pos, length, Result}
 use Rattle.arithmetic.specs.Choice.{when◌then◌else◌}
 use Rattle.ranges.specs.Fields.{Range, ◌to◌, within, item, inclining, shift}
-use Rattle.ranges.specs.Outcome.{Outcome, answered, refused, answer_with, left_with}
+use Rattle.ranges.specs.Outcome.{Outcome, refused, answer_with, left_with}
 use Rattle.ranges.specs.Outside.{first_outside, outside_then}
+use Rattle.ranges.specs.Reasons.{paper}
 use Rattle.ranges.specs.Refusals.{out_of_range, wrong_size}
 use Rattle.ranges.specs.Sizes.{whole_records, item_width, most_items, shift_width}
+use Rattle.ranges.specs.declared.refusal.Refusal.{Refusal}
 use Rattle.loading.specs.Items.{totals_of_items}
 use Rattle.inclining.specs.Light.{lightened}
 use Rattle.inclining.specs.Measured.{shifts_of, gm_measured, own_gms}
-use Rattle.inclining.specs.declared.Answer.{Answer}
-use Rattle.inclining.specs.declared.Answer.TheVariants.{Found, Refused}
 use Rattle.inclining.specs.declared.LightShip.{LightShip}
 use Rattle.inclining.specs.declared.Test.{Test}
 
@@ -77,11 +77,6 @@ module _ (test : Test) (shifts : List ℕ) (off on : List ℤ) where
       else when ltb outside (count shifts off on) then refused out_of_range outside
       else inclined
 
--- the paper's number and values for each answer
-abbrev pub paper : Answer → Outcome LightShip
-paper (Found ship) = answered ship
-paper (Refused r) = refused r.number r.place
-
 -- of what a test comes to, the light ship; and "in a lent table, each shift's own GM": beyond the last shift it stays as it was, and all of it after a refusal
 abbrev pub ship_of : Outcome Inclined → Outcome LightShip
 ship_of = answer_with (λ i. i.light)
@@ -89,6 +84,6 @@ ship_of = answer_with (λ i. i.light)
 abbrev pub table_after : Outcome Inclined → List ℕ → List ℕ
 table_after = left_with (λ i. i.gms)
 
-pub record MakesLightShip (test : Test) (shifts : List ℕ) (off on : List ℤ) (gms gmsAfter : List ℕ) (answer : Answer) : Type 0 where
+pub record MakesLightShip (test : Test) (shifts : List ℕ) (off on : List ℤ) (gms gmsAfter : List ℕ) (answer : Result LightShip Refusal) : Type 0 where
   pub answer_is : paper answer ≡ ship_of (inclined_of test shifts off on (length gms))
   pub left : gmsAfter ≡ table_after (inclined_of test shifts off on (length gms)) gms

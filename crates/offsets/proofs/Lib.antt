@@ -2,7 +2,6 @@
 pub mod Words
 pub mod Taking
 pub mod Within
-pub mod Stepping
 pub mod Particulars
 pub mod Runs
 pub mod Copies

@@ -26,7 +26,9 @@ use Rattle.offsets.specs.File.{Contents, records, hull_by, file_by}
 use Rattle.offsets.specs.Reader.{reader_by, reader_of, summary_of, Reads}
 use Rattle.offsets.specs.Reading.{one, numbers}
 use Rattle.offsets.specs.Tokens.{Token, number, no_number, tokens}
-use Rattle.offsets.specs.declared.Read.{Read}
+use Rattle.offsets.specs.declared.Summary.{Summary}
+use Rattle.ranges.specs.declared.refusal.Refusal.{Refusal}
+use Rattle.std.specs.Prelude.{Result}
 use Rattle.offsets.proofs.AsBefore.{tokens_before, answered_as_before}
 use Rattle.offsets.proofs.WasRead.{reads_contents}
 use Rattle.offsets.proofs.InRanges.{in_ranges_length, no_number_outside, hull_again}
@@ -96,7 +98,7 @@ pub read_since : (text : List ℕ) (h i t : ℕ) {c : Contents} → reader_by do
 read_since text h i t e = read_still longer_now text h i t e
 
 -- of the call: its answer and the fronts of its tables are those contents
-pub read_back_since : {text h₀ h' : List ℕ} {i₀ i' t₀ t' : List ℤ} {answer : Read} (h i t : ℕ) {c : Contents} → reader_by document_one text h i t ≡ answered c
+pub read_back_since : {text h₀ h' : List ℕ} {i₀ i' t₀ t' : List ℤ} {answer : Result Summary Refusal} (h i t : ℕ) {c : Contents} → reader_by document_one text h i t ≡ answered c
     → RoomForAnyFile h₀ i₀ t₀ → Reads text h₀ h' i₀ i' t₀ t' answer
     → ReadBack (summary_of c) (map nat_abs c.half_breadths) c.items c.tanks h₀ h' i₀ i' t₀ t' answer
 read_back_since {text} {h₀} {i₀ = i₀} {t₀ = t₀} h i t {c} e rooms r =

@@ -1,12 +1,13 @@
 -- A number and a count taken from the front of the tokens.
---     none_below, between_by_size              a number against a range from 0 on, by its sign and size
 --     one_end, one_none, one_in, one_out       a number of a range: no token, no number, within it, out of it
---     count_end, count_none, count_in, count_out      the same for a count
+--     count_taken, count_refused               a count is the size of a number that was taken; or is refused as the number was
 -- Assumes nothing.
 use mathlib.Core.Path.{◌≡◌, refl, sym}
 use mathlib.Core.Bool.{true, false, ◌&&◌}
 use mathlib.Core.List.{List, [], ◌∷◌}
-use Prim.Native.Nat.{ℕ}
+use Prim.Native.Nat.{ℕ, ◌≤◌}
+use Rattle.ranges.proofs.Facts.{within_size}
+use Rattle.offsets.proofs.Within.{one_within}
 use lib.Dec.{leb}
 use lib.IntN.{ℤ, pos, negsuc, nat_abs}
 use Rattle.arithmetic.specs.Signed.{is_negative}
@@ -18,16 +19,6 @@ use Rattle.ranges.specs.Refusals.{not_anumber, count_not_allowed, ends_too_early
 use Rattle.offsets.specs.Reading.{one, count}
 use Rattle.offsets.specs.Private.Steps.{Begins}
 use Rattle.offsets.specs.Tokens.{Token, number, no_number}
-
-pub none_below : (a b : ℕ) (v : ℤ) → is_negative v ≡ true → within (a to b) v ≡ false
-unfolding within
-none_below a b (pos n) e = never e
-none_below a b (negsuc n) e = refl
-
-pub between_by_size : (a b size : ℕ) (v : ℤ) → size ≡ nat_abs v → is_negative v ≡ false → within (a to b) v ≡ (leb a size && leb size b)
-unfolding within
-between_by_size a b size (pos n) s e = rw s
-between_by_size a b size (negsuc n) s e = never (sym e)
 
 module _ (len : ℕ) (tokens : List Token) where
   module _ (why : ℕ) (range : Range) where
@@ -48,23 +39,12 @@ module _ (len : ℕ) (tokens : List Token) where
       unfolding one
       one_out w = rw (e, w) (simp chosen)
 
-  module _ (least most : ℕ) where
-    abbrev allowed : Range
-    allowed = least to most
+-- a count is the size of a number of its range
+module _ (len least most : ℕ) (tokens : List Token) where
+  pub count_taken : {v : ℤ} {rest : List Token} → one len count_not_allowed (least to most) tokens ≡ answered (v, rest) → (count len least most tokens ≡ answered (nat_abs v, rest)) × ((least ≤ nat_abs v) × (nat_abs v ≤ most))
+  unfolding count and_then
+  count_taken {v} e = (rw e, within_size (least to most) v (one_within len count_not_allowed (least to most) tokens e))
 
-    pub count_end : tokens ≡ [] → count len least most tokens ≡ refused ends_too_early len
-    unfolding count and_then
-    count_end e = rw (one_end count_not_allowed allowed e)
-
-    pub count_none : (at : ℕ) → Begins (no_number at) tokens → count len least most tokens ≡ refused not_anumber at
-    unfolding count and_then
-    count_none at b = rw (one_none count_not_allowed allowed at b)
-
-    module _ (at : ℕ) (v : ℤ) (rest : List Token) (e : tokens ≡ number at v ∷ rest) where
-      pub count_in : within (least to most) v ≡ true → count len least most tokens ≡ answered (nat_abs v, rest)
-      unfolding count and_then
-      count_in w = rw (one_in count_not_allowed allowed at v rest e w)
-
-      pub count_out : within (least to most) v ≡ false → count len least most tokens ≡ refused count_not_allowed at
-      unfolding count and_then
-      count_out w = rw (one_out count_not_allowed allowed at v rest e w)
+  pub count_refused : {why place : ℕ} → one len count_not_allowed (least to most) tokens ≡ refused why place → count len least most tokens ≡ refused why place
+  unfolding count and_then
+  count_refused e = rw e

@@ -12,26 +12,25 @@ use lib.ListN.{length, take, drop, length-map}
 use lib.Seq.{take_at}
 use Rattle.ranges.specs.Fields.{item, tank}
 use Rattle.ranges.specs.Outcome.{answered, answer_with, left_with}
+use Rattle.ranges.specs.declared.refusal.Refusal.{Refusal}
+use Rattle.std.specs.Prelude.{Result, Ok}
 use Rattle.ranges.specs.Sizes.{points_of, item_width, tank_width}
-use Rattle.ranges.proofs.Outcomes.{not_refused, with_answered}
+use Rattle.ranges.proofs.Outcomes.{not_refused, paper_ok, with_answered}
 use Rattle.offsets.specs.Back.{ReadBack}
 use Rattle.offsets.specs.File.{Contents}
 use Rattle.offsets.specs.Reader.{Reads, reader_of, reader_by, summary_of}
 use Rattle.offsets.specs.Tokens.{tokens}
-use Rattle.offsets.specs.declared.Read.{Read}
-use Rattle.offsets.specs.declared.Read.TheVariants.{Sheet}
 use Rattle.offsets.specs.declared.Summary.{Summary}
 use Rattle.offsets.proofs.FileIn.{file_in}
 use Rattle.offsets.proofs.Sound.{Sound, records_in, length_of_half_breadths, length_of_items, length_of_tanks}
-use Rattle.offsets.proofs.Unique.{read_paper_injective}
 
 -- a reader that read contents answers and leaves them
-pub reads_contents : {text h₀ h' : List ℕ} {i₀ i' t₀ t' : List ℤ} {answer : Read} (c : Contents)
+pub reads_contents : {text h₀ h' : List ℕ} {i₀ i' t₀ t' : List ℤ} {answer : Result Summary Refusal} (c : Contents)
     → reader_of text (length h₀) (length i₀) (length t₀) ≡ answered c → Reads text h₀ h' i₀ i' t₀ t' answer
     → ReadBack (summary_of c) (map nat_abs c.half_breadths) c.items c.tanks h₀ h' i₀ i' t₀ t' answer
 unfolding answer_with left_with
 reads_contents {answer = answer} c e r = record {
-  answer_is = read_paper_injective answer (Sheet (summary_of c)) (r.answer_is ∙ rw e);
+  answer_is = paper_ok (r.answer_is ∙ rw e);
   half_breadths_are = r.tables_are.half_breadths_left ∙ rw e;
   items_are = r.tables_are.items_left ∙ rw e;
   tanks_are = r.tables_are.tanks_left ∙ rw e;
@@ -69,7 +68,7 @@ pub record ReadContents (text h₀ h' : List ℕ) (i₀ i' t₀ t' : List ℤ) (
 front_of : {A : Type 0} (read was after : List A) (n : ℕ) → length read ≡ n → after ≡ read ++ drop (length read) was → take n after ≡ read
 front_of read was after n e l = rw l (take_at read (drop (length read) was) n e)
 
-pub contents_read : {text h₀ h' : List ℕ} {i₀ i' t₀ t' : List ℤ} {summary : Summary} → Reads text h₀ h' i₀ i' t₀ t' (Sheet summary) → ReadContents text h₀ h' i₀ i' t₀ t' summary
+pub contents_read : {text h₀ h' : List ℕ} {i₀ i' t₀ t' : List ℤ} {summary : Summary} → Reads text h₀ h' i₀ i' t₀ t' (Ok summary) → ReadContents text h₀ h' i₀ i' t₀ t' summary
 contents_read {text} {h₀} {h'} {i₀} {i'} {t₀} {t'} r =
     let x = with_answered summary_of (reader_of text (length h₀) (length i₀) (length t₀)) (sym r.answer_is) in
     let c = x.0 in

@@ -20,15 +20,21 @@ use lib.Seq.{drop-drop, drop_at, get_or-drop}
 use Rattle.arithmetic.specs.Choice.{when◌then◌else◌}
 use Rattle.arithmetic.proofs.Choice.{chosen, if_either}
 use Rattle.arithmetic.proofs.Parts.{drop_step}
-use Rattle.arithmetic.proofs.Tests.{never}
+use Rattle.arithmetic.proofs.Tests.{never, by_test}
 use Rattle.numerals.specs.Number.{minus, number_of, is_digit}
 use Rattle.numerals.specs.Front.{digits_of, enough_digits, front, numeral_at}
 use Rattle.numerals.specs.declared.reading.Number.TheVariants.{Not}
-use Rattle.numerals.specs.declared.reading.Numeral.TheVariants.{Ends, None}
+use Rattle.numerals.specs.declared.reading.Numeral.TheVariants.{Ends}
+use Rattle.numerals.specs.declared.reading.Numeral.TheVariants as Numeral
+use Rattle.std.specs.Prelude.{Some, None, not, cond}
+use Rattle.std.specs.List.{position, position_or_len}
+use Rattle.std.proofs.lemmas.Option.{none-some}
+use Rattle.std.proofs.lemmas.List.Sums.{prefix_len_passes}
+use Rattle.std.proofs.lemmas.List.Quantifiers.{position-Some}
 use Rattle.numerals.proofs.Fronts as Fronts
 use Rattle.numerals.proofs.Wholes.{digit_range}
 use Rattle.offsets.specs.Tokens.{Token, number, no_number, space, line_feed, tab, carriage_return, is_separator, said, closed, tokens_by, tokens_from}
-use Rattle.offsets.specs.Private.Steps.{tokens_at, ends_here, Begins, FirstByte}
+use Rattle.offsets.specs.Private.Steps.{tokens_at, ends_here, Begins, ByteAt}
 
 -- ---- separators, and the end
 module _ (text : List ℕ) (i : ℕ) where
@@ -246,23 +252,66 @@ module _ (text : List ℕ) (at : ℕ) (t : TokenAt text at) where
       says_none (Fronts.not_of_other text at t.token t.rest t.stands (no_digit t.ends) e
       (λ place. never (sym h ∙ ap (ends_here text) place ∙ ends_there)))
 
-  pub finds_none : numeral_at text at ≡ None → Begins (no_number at) (tokens_at text at)
+  pub finds_none : numeral_at text at ≡ Numeral.None → Begins (no_number at) (tokens_at text at)
   finds_none e = says_none (Fronts.not_of_none text at t.token t.rest t.stands (no_digit t.ends) e)
 
 -- ---- the first token from a place on
-module _ (text : List ℕ) (from at : ℕ) (f : FirstByte text from at) where
-  pub first_none : length text ≤ at → tokens_at text from ≡ []
-  first_none h = sym f.same ∙ at_end text at h
+-- so many separators are passed over
+passed : (text : List ℕ) (i k : ℕ) → k ≤ length (drop i text) → ((j : ℕ) → j < k → is_separator (get_or (drop i text) j 0) ≡ true) → tokens_at text (i + k) ≡ tokens_at text i
+passed text i zero h all = ap (tokens_at text) (add-zero i)
+passed text i (suc k) h all =
+    let place : i + suc k ≡ i + k + 1 = omega arith in
+    ap (tokens_at text) place ∙ at_separator text (i + k) (omega (arith, length-drop i text)) (rw get_or-drop at (all k (omega arith))) ∙ passed text i k (omega arith) (λ j l. all j (omega arith))
 
-  module _ (h : at < length text) where
-    abbrev here_is : TokenAt text at
-    here_is = token_at text at h (f.word h)
+-- a byte of a token
+abbrev other : ℕ → Bool
+other b = not (is_separator b)
 
-    pub first_number : (v : ℤ) (stop : ℕ) → numeral_at text at ≡ Ends v stop → ends_here text stop ≡ true → tokens_at text from ≡ number at v ∷ tokens_at text stop
-    first_number v stop e k = sym f.same ∙ finds_number text at here_is v stop e k
+no_other : (b : Bool) → not b ≡ false → b ≡ true
+no_other true e = refl
+no_other false e = never (sym e)
 
-    pub first_other : (v : ℤ) (stop : ℕ) → numeral_at text at ≡ Ends v stop → ends_here text stop ≡ false → Begins (no_number at) (tokens_at text from)
-    first_other v stop e k = rw (← f.same) (finds_other text at here_is v stop e k)
+an_other : (b : Bool) → not b ≡ true → b ≡ false
+an_other true e = never e
+an_other false e = refl
 
-    pub first_no_number : numeral_at text at ≡ None → Begins (no_number at) (tokens_at text from)
-    first_no_number e = rw (← f.same) (finds_none text at here_is e)
+still_other : (b : Bool) → not (not b) ≡ true → b ≡ true
+still_other true e = refl
+still_other false e = never e
+
+module _ (text : List ℕ) (from : ℕ) where
+  abbrev ahead : List ℕ
+  ahead = drop from text
+
+  all_passed : length ahead ≤ position_or_len other ahead → tokens_at text from ≡ []
+  all_passed h =
+      sym (passed text from (length ahead) (omega arith) (λ j l. still_other (is_separator (get_or ahead j 0)) (prefix_len_passes (λ b. not (other b)) ahead j 0 (omega arith))))
+      ∙ at_end text (from + length ahead) (omega (arith, length-drop from text))
+
+  pub none_ahead : position other ahead ≡ None → tokens_at text from ≡ []
+  none_ahead e =
+      by_test (ltb (position_or_len other ahead) (length ahead))
+      (λ t. absurd (none-some (position_or_len other ahead) (sym e ∙ ap (λ t. cond t (Some (position_or_len other ahead)) None) t)))
+      (λ t. all_passed (ltb-false (position_or_len other ahead) (length ahead) t))
+
+  pub byte_ahead : (k : ℕ) → position other ahead ≡ Some k → ByteAt text from (from + k)
+  byte_ahead k e =
+      let p = position-Some other ahead k 0 e in
+      record {
+        same = passed text from k (omega arith) (λ j l. no_other (is_separator (get_or ahead j 0)) (p.2 j l));
+        there = omega (arith, length-drop from text, p.0);
+        word = rw get_or-drop at (an_other (is_separator (get_or ahead k 0)) p.1);
+      }
+
+module _ (text : List ℕ) (from at : ℕ) (f : ByteAt text from at) where
+  abbrev here_is : TokenAt text at
+  here_is = token_at text at f.there f.word
+
+  pub first_number : (v : ℤ) (stop : ℕ) → numeral_at text at ≡ Ends v stop → ends_here text stop ≡ true → tokens_at text from ≡ number at v ∷ tokens_at text stop
+  first_number v stop e k = sym f.same ∙ finds_number text at here_is v stop e k
+
+  pub first_other : (v : ℤ) (stop : ℕ) → numeral_at text at ≡ Ends v stop → ends_here text stop ≡ false → Begins (no_number at) (tokens_at text from)
+  first_other v stop e k = rw (← f.same) (finds_other text at here_is v stop e k)
+
+  pub first_no_number : numeral_at text at ≡ Numeral.None → Begins (no_number at) (tokens_at text from)
+  first_no_number e = rw (← f.same) (finds_none text at here_is e)

@@ -5,7 +5,7 @@ mod reader;
 mod reading;
 mod tokens;
 
-use ranges::{Particulars, Refusal};
+use ranges::Particulars;
 pub use reader::read_file;
 
 // What a file says beside its tables: the particulars, and how many items and tanks there are.
@@ -14,11 +14,4 @@ pub struct Summary {
     pub particulars: Particulars,
     pub items: usize,
     pub tanks: usize,
-}
-
-// What reading a file answers.
-#[derive(Clone, Copy)]
-pub enum Read {
-    Sheet(Summary),
-    Refused(Refusal),
 }

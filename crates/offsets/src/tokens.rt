@@ -1,105 +1,72 @@
 // Tokens by place. Each byte of a text is looked at once, but for a separator after a token.
-ghost use Rattle.std.specs.Prelude.{◌≡◌, ◌<◌, length};
+ghost use Rattle.std.specs.Prelude.{◌≡◌, length, not};
+ghost use Rattle.std.specs.List.{position};
 ghost use Rattle.offsets.specs.Tokens.{is_separator};
 ghost use Rattle.offsets.specs.Private.Steps.{Finds, tokens_at, ends_here, place_after, FirstByte};
 
-use numerals::Numeral;
-
-// What stands next in a text.
+// A number that stands in a text, and the place after it.
 #[derive(Clone, Copy)]
-pub enum Found {
-    End,
-    // A number with the place of its first byte and the place after it.
-    Number { at: usize, value: i64, next: usize },
-    NoNumber { at: usize },
+pub(crate) struct Numeral {
+    pub value: i64,
+    pub stop: usize,
+}
+
+// What stands next in a text: the place of a token's first byte, and the number that it is, if it is one.
+#[derive(Clone, Copy)]
+pub(crate) struct Found {
+    pub at: usize,
+    pub number: Option<Numeral>,
 }
 
 // The first token from a place on that stands in no token.
-pub(crate) fn next_token(text: &[u8], from: usize) -> Found
+pub(crate) fn next_token(text: &[u8], from: usize) -> Option<Found>
     ensures { Finds text.now (tokens_at text.now from) result }
 {
-    let at = first_byte(text, from);
-    if text.len() <= at {
-        return Found::End;
-    }
+    let at = first_byte(text, from)?;
     match numerals::numeral_at(text, at) {
-        Numeral::None => Found::NoNumber { at },
-        Numeral::Ends { value, stop } => if ends_here(text, stop) {
-            Found::Number {
-                at,
-                value,
-                next: stop,
-            }
-        } else {
-            Found::NoNumber { at }
-        },
+        numerals::Numeral::Ends { value, stop } if ends_here(text, stop) => Some(Found {
+            at,
+            number: Some(Numeral { value, stop }),
+        }),
+        _ => Some(Found { at, number: None }),
     }
 }
 
-// The place of the token after `count` numbers from a place on; the text's end where there are not so many.
-pub(crate) fn place_after(text: &[u8], from: usize, count: usize) -> usize
-    ensures { result ≡ place_after (length text.now) count (tokens_at text.now from) }
+// The place of the token after `count` numbers from a place on.
+pub(crate) fn place_after(text: &[u8], from: usize, count: usize) -> Option<usize>
+    ensures { result ≡ place_after count (tokens_at text.now from) }
 {
     let mut next = from;
-    let mut i = 0;
-    while i < count {
-        match next_token(text, next) {
-            Found::End => return text.len(),
-            Found::NoNumber { at: _ } => return text.len(),
-            Found::Number {
-                at: _,
-                value: _,
-                next: after,
-            } => next = after,
-        }
-        i += 1;
+    for _passed in 0..count {
+        next = next_token(text, next)?.number?.stop;
     }
-    match next_token(text, next) {
-        Found::End => text.len(),
-        Found::NoNumber { at } => at,
-        Found::Number {
-            at,
-            value: _,
-            next: _,
-        } => at,
-    }
+    Some(next_token(text, next)?.at)
 }
 
 // The place of the first byte from a place on that is no separator.
-fn first_byte(text: &[u8], from: usize) -> usize
+fn first_byte(text: &[u8], from: usize) -> Option<usize>
     ensures { FirstByte text.now from result }
 {
-    let mut i = from;
-    while i < text.len() {
-        if !is_separator(text[i]) {
-            return i;
-        }
-        i += 1;
-    }
-    i
+    let separators = first_other(text.get(from..)?)?;
+    Some(from + separators)
+}
+
+fn first_other(text: &[u8]) -> Option<usize>
+    ensures { result ≡ position (λ b. not (is_separator b)) text.now }
+{
+    text.iter().position(|b| !is_separator(*b))
 }
 
 // Whether a token that ends before this place has no byte here.
 fn ends_here(text: &[u8], place: usize) -> bool
     ensures { result ≡ ends_here text.now place }
 {
-    if place < text.len() {
-        return is_separator(text[place]);
-    }
-    true
+    place >= text.len() || is_separator(text[place])
 }
 
 #[tactic(auto, unfolding(crate::specs::Tokens::is_separator))]
 fn is_separator(b: u8) -> bool
     ensures { result ≡ is_separator b }
 {
-    if b == b' ' {
-        true
-    } else if b == b'\n' {
-        true
-    } else if b == b'\t' {
-        true
-    } else {
-        b == b'\r'
-    }
+    matches!(b, b' ' | b'\n' | b'\t' | b'\r')
 }

@@ -1,6 +1,6 @@
 -- The five sums of the rows of a hull, and how large they are: between the engines that make them and the table that is made of them.
 -- No definition of a row cites this file.
-use Rattle.std.specs.Prelude.{ℕ, ◌*◌, ◌^◌, ◌≤◌, ◌<◌, List, Option, Some, None, get_or}
+use Rattle.std.specs.Prelude.{ℕ, ◌*◌, ◌^◌, ◌≤◌, ◌<◌, List, Option, Some, None, length, get_or}
 use Rattle.ranges.specs.Fields.{range_of, most}
 use Rattle.ranges.specs.Private.InRange.{ParticularsInRange}
 use Rattle.ranges.specs.Sizes.{rows_over}
@@ -46,7 +46,7 @@ pub record SumsWithin (k : ℕ) (sums : Sums) : Type 0 where
   pub q_most : sums.q ≤ most_q
   pub c_most : sums.c ≤ most_c
 
--- and of every row
+-- and of each of these rows
 pub record AllWithin (p : Particulars) (sums : List Sums) : Type 0 where
   pub particulars : ParticularsInRange p
-  pub each : (r : ℕ) → r < rows_over p.m → SumsWithin (waterline_of r) (get_or sums r no_sums)
+  pub each : (r : ℕ) → r < length sums → SumsWithin (waterline_of r) (get_or sums r no_sums)

@@ -1,21 +1,51 @@
 -- Each table is tried in its turn, and what stands before it on the sheet is counted. Assumes nothing.
+use mathlib.Core.Path.{refl, sym}
 use native.Mathlib.Omega.{arith}
-use Rattle.ranges.specs.Fields.{item}
-use Rattle.ranges.proofs.Outside.{outside_le}
-use Rattle.inclining.proofs.Trying.{test_outside, shift_outside, off_outside, on_outside}
+use Rattle.ranges.proofs.Outside.{place_none, some_place, none_place}
+use Rattle.inclining.proofs.Trying.{test_outside, shift_outside, off_outside, on_outside, place_told}
 use Rattle.inclining.proofs.outside_of.Goals as goal
 
-pub returns-then-in_test-lt-INCLINING_WIDTH : goal.returns-then-in_test-lt-INCLINING_WIDTH
-returns-then-in_test-lt-INCLINING_WIDTH c = test_outside _ _ _ _ c.inclining_outside-in_test.ensures c.if-in_test-lt-INCLINING_WIDTH.true
+pub returns-in-Some : goal.returns-in-Some
+returns-in-Some c =
+    let at = some_place (sym c.in-Some.ensures) in
+    place_told _ _ _ _ (test_outside _ _ _ _ at.0 (omega (arith, at.0, at.1))) (omega (arith, at.0, at.1))
 
-pub returns-then-in_shifts-shifts : goal.returns-then-in_shifts-shifts
-returns-then-in_shifts-shifts c = shift_outside _ _ _ _ c.inclining_outside-in_test.ensures c.if-in_test-lt-INCLINING_WIDTH.false c.shift_outside-in_shifts.ensures c.if-in_shifts-shifts.true
+pub overflow_add-result : goal.overflow_add-result
+overflow_add-result c = let at = some_place (sym c.in-Some-first_outside.ensures) in omega (arith, at.0, at.1)
 
-pub returns-then-in_off-off : goal.returns-then-in_off-off
-returns-then-in_off-off c = off_outside _ _ _ _ c.inclining_outside-in_test.ensures c.if-in_test-lt-INCLINING_WIDTH.false c.shift_outside-in_shifts.ensures c.if-in_shifts-shifts.false c.item_outside-in_off.ensures c.if-in_off-off.true
+pub returns-in-Some-first_outside : goal.returns-in-Some-first_outside
+returns-in-Some-first_outside c =
+    let tested = none_place (sym c.in_default.ensures) in
+    let at = some_place (sym c.in-Some-first_outside.ensures) in
+    place_told _ _ _ _ (shift_outside _ _ _ _ refl tested at.0 (omega (arith, at.0, at.1))) (omega (arith, at.0, at.1))
 
-pub overflow_add-result-4 : goal.overflow_add-result-4
-overflow_add-result-4 c = omega (arith, c.item_outside.ensures, outside_le item c.args.on.now)
+pub overflow_add-result-in-Some-first_outside-2-2 : goal.overflow_add-result-in-Some-first_outside-2-2
+overflow_add-result-in-Some-first_outside-2-2 c = let at = some_place (sym c.in-Some-first_outside-2.ensures) in omega (arith, at.0, at.1)
+
+pub returns-in-Some-first_outside-2 : goal.returns-in-Some-first_outside-2
+returns-in-Some-first_outside-2 c =
+    let tested = none_place (sym c.in_default.ensures) in
+    let shifted = none_place (sym c.in_default-first_outside.ensures) in
+    let at = some_place (sym c.in-Some-first_outside-2.ensures) in
+    place_told _ _ _ _ (off_outside _ _ _ _ refl tested refl shifted at.0 (omega (arith, at.0, at.1))) (omega (arith, at.0, at.1))
+
+pub overflow_add-result-in-Some-first_outside-3-3 : goal.overflow_add-result-in-Some-first_outside-3-3
+overflow_add-result-in-Some-first_outside-3-3 c = let at = some_place (sym c.in-Some-first_outside-3.ensures) in omega (arith, at.0, at.1)
+
+pub returns-in-Some-first_outside-3 : goal.returns-in-Some-first_outside-3
+returns-in-Some-first_outside-3 c =
+    let tested = none_place (sym c.in_default.ensures) in
+    let shifted = none_place (sym c.in_default-first_outside.ensures) in
+    let off_listed = none_place (sym c.in_default-first_outside-2.ensures) in
+    let at = some_place (sym c.in-Some-first_outside-3.ensures) in
+    place_told _ _ _ _ (on_outside _ _ _ _ refl tested refl shifted refl off_listed at.0) (omega (arith, at.0, at.1))
 
 pub returns : goal.returns
-returns c = on_outside _ _ _ _ c.inclining_outside-in_test.ensures c.if-in_test-lt-INCLINING_WIDTH.false c.shift_outside-in_shifts.ensures c.if-in_shifts-shifts.false c.item_outside-in_off.ensures c.if-in_off-off.false c.item_outside.ensures
+returns c =
+    let tested = none_place (sym c.in_default.ensures) in
+    let shifted = none_place (sym c.in_default-first_outside.ensures) in
+    let off_listed = none_place (sym c.in_default-first_outside-2.ensures) in
+    let on_listed = none_place (sym c.in_default-first_outside-3.ensures) in
+    let s = c.args in
+    let all = on_outside s.test s.shifts.now s.off.now s.on.now refl tested refl shifted refl off_listed refl in
+    sym (place_none (omega (arith, all, on_listed)))

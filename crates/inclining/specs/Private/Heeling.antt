@@ -12,14 +12,17 @@ use Rattle.inclining.specs.Measured.{Shift}
 use Rattle.inclining.specs.declared.Heeling.{Heeling}
 use Rattle.inclining.specs.declared.Test.{Test}
 
--- the first table of a wrong size by its number, or how many tables there are
+-- how many tables there are, and the first of a wrong size by its number, or their count
+abbrev pub table_count : ℕ
+table_count = gm_table + 1
+
 unfoldable pub wrong_table : ℕ → ℕ → ℕ → ℕ → ℕ
 wrong_table shifts off on room =
     when not (shifts_fit shifts) then shift_table
     else when not (items_fit off) then off_table
     else when not (items_fit on) then on_table
     else when ltb room (shifts / shift_width) then gm_table
-    else gm_table + 1
+    else table_count
 
 -- the total of weight times distance, and of deflection
 abbrev pub heeling_by : List Shift → Heeling

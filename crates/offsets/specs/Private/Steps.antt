@@ -1,21 +1,20 @@
 -- What the private functions of the reader find by place, told on the tokens. No promise needs these words: they tie the code to `Reading` and `File`.
-use Rattle.std.specs.Prelude.{ℕ, zero, suc, ◌+◌, ◌*◌, ◌%◌, ◌≤◌, ◌<◌, ◌≡◌, Bool, true, false, List, [], ◌∷◌, ltb, ℤ, pos, nat_abs, length, take, drop, get_or}
+use Rattle.std.specs.Prelude.{ℕ, zero, suc, ◌+◌, ◌*◌, ◌%◌, ◌≤◌, ◌<◌, ◌≡◌, Bool, true, false, List, [], ◌∷◌, ltb, ℤ, pos, nat_abs, length, take, drop, get_or, Option, Some, None, Result, Ok, Err}
 use Rattle.arithmetic.specs.Choice.{when◌then◌else◌}
-use Rattle.ranges.specs.Fields.{Range, range_of, within, particulars, half_breadth}
+use Rattle.ranges.specs.Fields.{Range, ◌to◌, most, range_of, half_breadth, item, tank}
 use Rattle.ranges.specs.Limits.{limits}
-use Rattle.ranges.specs.Outcome.{Outcome, answered, refused, and_then}
-use Rattle.ranges.specs.Sizes.{longest_file, room_for_half_breadths, room_for_items, room_for_tanks, item_width, tank_width, most_items, most_tanks}
-use Rattle.offsets.specs.File.{Contents, points, complete, file, hull_by}
-use Rattle.offsets.specs.Reading.{numbers, count}
+use Rattle.ranges.specs.Outcome.{Outcome, answered, refused}
+use Rattle.ranges.specs.Outside.{numbers_of}
+use Rattle.ranges.specs.Reasons.{number_of, paper}
+use Rattle.ranges.specs.Sizes.{longest_file, room_for_half_breadths, room_for_items, room_for_tanks, item_width, tank_width, most_items, most_tanks, points_of}
+use Rattle.ranges.specs.declared.refusal.Refusal.{Refusal}
+use Rattle.offsets.specs.File.{Contents, complete, file, hull_by, section}
+use Rattle.offsets.specs.Reading.{Reading, one, numbers, count}
 use Rattle.offsets.specs.Tokens.{Token, number, no_number, place_of, is_separator, tokens_from, tokens}
+use Rattle.offsets.specs.declared.Summary.{Summary}
 use Rattle.offsets.specs.declared.tokens.Found.{Found}
-use Rattle.offsets.specs.declared.tokens.Found.TheVariants.{End, Number, NoNumber}
-use Rattle.offsets.specs.declared.reading.One.{One}
-use Rattle.offsets.specs.declared.reading.One.TheVariants as O
-use Rattle.offsets.specs.declared.reading.Step.{Step}
-use Rattle.offsets.specs.declared.reading.Step.TheVariants as S
-use Rattle.offsets.specs.declared.reader.Parsed.{Parsed}
-use Rattle.offsets.specs.declared.reader.Parsed.TheVariants as P
+use Rattle.offsets.specs.declared.tokens.Numeral.{Numeral}
+use Rattle.offsets.specs.declared.reading.Cursor.{Cursor}
 
 -- the tokens from a place on that stands in no token
 unfoldable pub tokens_at : List ℕ → ℕ → List Token
@@ -30,120 +29,95 @@ pub record Begins (first : Token) (tokens : List Token) : Type 0 where
   pub rest : List Token
   pub is : tokens ≡ first ∷ rest
 
-module _ (text : List ℕ) where
-  -- what is found is the first of the tokens
-  abbrev pub Finds : List Token → Found → Type 0
-  Finds tokens End = tokens ≡ []
-  Finds tokens (Number at v next) = tokens ≡ number at v ∷ tokens_at text next
-  Finds tokens (NoNumber at) = Begins (no_number at) tokens
+-- what is found is the first of the tokens
+abbrev pub FindsAt : List ℕ → List Token → ℕ → Option Numeral → Type 0
+FindsAt text tokens at (Some n) = tokens ≡ number at n.value ∷ tokens_at text n.stop
+FindsAt text tokens at None = Begins (no_number at) tokens
 
-  unfoldable pub on_one : One → Outcome (ℤ × List Token)
-  on_one (O.Got v next) = answered (v, tokens_at text next)
-  on_one (O.Refused r) = refused r.number r.place
-
-  unfoldable pub on_step : Step → Outcome (ℕ × List Token)
-  on_step (S.At k next) = answered (k, tokens_at text next)
-  on_step (S.Refused r) = refused r.number r.place
-
-  -- numbers that were put into a table, and where reading stands
-  unfoldable pub on_numbers : List ℤ → Step → Outcome (List ℤ × List Token)
-  on_numbers read (S.At k next) = answered (read, tokens_at text next)
-  on_numbers read (S.Refused r) = refused r.number r.place
-
-  unfoldable pub on_end : Contents → Step → Outcome Contents
-  on_end c (S.At k next) = answered c
-  on_end c (S.Refused r) = refused r.number r.place
-
--- the numbers of the first half-breadth's, the first item's and the first tank's field; the particulars' begin at 0
-abbrev pub half_breadth_field : ℕ
-half_breadth_field = length particulars
-
-abbrev pub item_field : ℕ
-item_field = half_breadth_field + length half_breadth
-
-abbrev pub tank_field : ℕ
-tank_field = item_field + item_width
-
--- the ranges of n numbers of records whose fields are `width` from number `first` on; the first of them is number i of its table
-unfoldable pub ranges_from : ℕ → ℕ → ℕ → ℕ → List Range
-ranges_from first width zero i = []
-ranges_from first width (suc n) i = range_of (first + i % width) ∷ ranges_from first width n (i + 1)
+abbrev pub Finds : List ℕ → List Token → Option Found → Type 0
+Finds text tokens None = tokens ≡ []
+Finds text tokens (Some found) = FindsAt text tokens found.at found.number
 
 -- the place of the first byte that is no separator
-pub record FirstByte (text : List ℕ) (from at : ℕ) : Type 0 where
+pub record ByteAt (text : List ℕ) (from at : ℕ) : Type 0 where
   pub same : tokens_at text at ≡ tokens_at text from
-  pub word : at < length text → is_separator (get_or text at 0) ≡ false
+  pub there : at < length text
+  pub word : is_separator (get_or text at 0) ≡ false
 
--- n numbers are read from a place on into the front of a table
-abbrev pub ReadsFrom : List ℕ → ℕ → ℕ → ℕ → ℕ → List ℤ → Step → Type 0
-ReadsFrom text from first width n after r = numbers (length text) (ranges_from first width n 0) (tokens_at text from) ≡ on_numbers text (take n after) r
+abbrev pub FirstByte : List ℕ → ℕ → Option ℕ → Type 0
+FirstByte text from (Some at) = ByteAt text from at
+FirstByte text from None = tokens_at text from ≡ []
 
--- the same after a step
-abbrev pub ReadsAfter : List ℕ → Step → ℕ → ℕ → ℕ → List ℤ → Step → Type 0
-ReadsAfter text step first width n after r =
-    and_then (on_step text step) (λ at. numbers (length text) (ranges_from first width n 0) at.1) ≡ on_numbers text (take n after) r
+-- the place of the token after k numbers, where there are so many
+unfoldable pub place_after : ℕ → List Token → Option ℕ
+place_after k [] = None
+place_after zero (t ∷ ts) = Some (place_of t)
+place_after (suc k) (number place v ∷ ts) = place_after k ts
+place_after (suc k) (no_number place ∷ ts) = None
 
--- the place of the token after k numbers; the text's end where there are not so many
-unfoldable pub place_after : ℕ → ℕ → List Token → ℕ
-place_after end k [] = end
-place_after end zero (t ∷ ts) = place_of t
-place_after end (suc k) (number place v ∷ ts) = place_after end k ts
-place_after end (suc k) (no_number place ∷ ts) = end
+-- what a call answered, told as a reading: a value of its answer, and the tokens from the place reached on
+abbrev pub reached : {A B : Type 0} → List ℕ → ℕ → (A → B) → Result A Refusal → Outcome (B × List Token)
+reached text next value (Ok a) = answered (value a, tokens_at text next)
+reached text next value (Err r) = refused (number_of r.reason) r.place
 
--- the particulars in front of a table
-abbrev pub hull_in : List ℤ → List ℤ
-hull_in table = take (length particulars) table
+-- a step of a cursor reads so much of its text, whose length the reading is given
+pub record Step {A B : Type 0} (reading : ℕ → Reading B) (value : A → B) (was after : Cursor) (r : Result A Refusal) : Type 0 where
+  pub same_text : after.text.now ≡ was.text.now
+  pub read : reading (length was.text.now) (tokens_at was.text.now was.next) ≡ reached was.text.now after.next value r
 
--- the particulars are read from a place on into the front of a table
-abbrev pub HullFrom : List ℕ → ℕ → List ℤ → Step → Type 0
-HullFrom text from after r = hull_by (length text) limits (tokens_at text from) ≡ on_numbers text (hull_in after) r
+abbrev pub one_by : ℕ → Range → ℕ → Reading ℤ
+one_by why range len = one len why range
 
--- the same after a step
-abbrev pub HullAfter : List ℕ → Step → List ℤ → Step → Type 0
-HullAfter text step after r = and_then (on_step text step) (λ at. hull_by (length text) limits at.1) ≡ on_numbers text (hull_in after) r
+abbrev pub count_by : ℕ → ℕ → ℕ → Reading ℕ
+count_by least most len = count len least most
 
--- the count where reading stands; none at a refusal
-abbrev pub count_of : Step → ℕ
-count_of (S.At k next) = k
-count_of (S.Refused r) = 0
+-- the ranges of n numbers of a table of records, from number i of it on
+unfoldable pub ranges_from : List Range → ℕ → ℕ → List Range
+ranges_from fields zero i = []
+ranges_from fields (suc n) i = get_or fields (i % length fields) (1 to 0) ∷ ranges_from fields n (i + 1)
 
--- a count is read after a step
-pub record Counts (text : List ℕ) (step : Step) (least most : ℕ) (r : Step) : Type 0 where
-  pub read : and_then (on_step text step) (λ at. count (length text) least most at.1) ≡ on_step text r
-  pub bounded : count_of r ≤ most
+abbrev pub numbers_by : List Range → ℕ → ℕ → Reading (List ℤ)
+numbers_by fields n len = numbers len (ranges_from fields n 0)
 
--- nothing follows a step
-abbrev pub Finishes : List ℕ → Step → Step → Type 0
-Finishes text step r = (c : Contents) → and_then (on_step text step) (λ at. complete (length text) c at.1) ≡ on_end text c r
+abbrev pub section_by : ℕ → ℕ → List Range → ℕ → Reading (List ℤ)
+section_by least most fields len = section len least most fields
 
--- n and m of a hull's numbers make so many points; none where they are out of range
-unfoldable pub points_in : List ℤ → ℕ
-points_in hull =
-    when within (range_of 0) (pos (nat_abs (get_or hull 0 (pos 0)))) then (when within (range_of 1) (pos (nat_abs (get_or hull 1 (pos 0)))) then points hull else 0)
-    else 0
+abbrev pub particulars_by : ℕ → Reading (List ℤ)
+particulars_by len = hull_by len limits
 
--- a whole file was read into the front of four tables
-unfoldable pub on_parsed : List ℤ → List ℤ → List ℤ → List ℤ → Parsed → Outcome Contents
-on_parsed hull half_breadths items tanks (P.Whole count i t) = answered (record {
-  hull = hull_in hull;
-  half_breadths = take count half_breadths;
-  items = take (item_width * i) items;
-  tanks = take (tank_width * t) tanks;
+-- the numbers of k records in front of a table
+abbrev pub front : List Range → List ℤ → ℕ → List ℤ
+front fields table k = take (length fields * k) table
+
+-- nothing follows where a cursor stands, whatever was read before
+abbrev pub ended : {A : Type 0} → Contents → Result A Refusal → Outcome Contents
+ended c (Ok a) = answered c
+ended c (Err r) = refused (number_of r.reason) r.place
+
+abbrev pub Finishes : {A : Type 0} → Cursor → Result A Refusal → Type 0
+Finishes at r = (c : Contents) → complete (length at.text.now) c (tokens_at at.text.now at.next) ≡ ended c r
+
+-- a whole file was read into the fronts of three tables
+abbrev pub on_parsed : List ℤ → List ℤ → List ℤ → Result Summary Refusal → Outcome Contents
+on_parsed half_breadths items tanks (Ok s) = answered (record {
+  hull = numbers_of s.particulars;
+  half_breadths = front half_breadth half_breadths (points_of s.particulars.n s.particulars.m);
+  items = front item items s.items;
+  tanks = front tank tanks s.tanks;
 })
-on_parsed hull half_breadths items tanks (P.Refused r) = refused r.number r.place
+on_parsed half_breadths items tanks (Err r) = refused (number_of r.reason) r.place
 
 -- and fits them
-abbrev pub Fits : Parsed → Type 0
-Fits (P.Whole count i t) = (count ≤ room_for_half_breadths) × (i ≤ most_items) × (t ≤ most_tanks)
-Fits (P.Refused r) = Unit
+abbrev pub Fits : Result Summary Refusal → Type 0
+Fits (Ok s) = (s.particulars.n ≤ most (range_of 0)) × (s.particulars.m ≤ most (range_of 1)) × (s.items ≤ most_items) × (s.tanks ≤ most_tanks)
+Fits (Err r) = Unit
 
-pub record Parses (text : List ℕ) (hull half_breadths items tanks : List ℤ) (r : Parsed) : Type 0 where
-  pub read : file (length text) (tokens text) ≡ on_parsed hull half_breadths items tanks r
+pub record Parses (text : List ℕ) (half_breadths items tanks : List ℤ) (r : Result Summary Refusal) : Type 0 where
+  pub read : file (length text) (tokens text) ≡ on_parsed half_breadths items tanks r
   pub fits : Fits r
 
 -- room for what a file can hold
-pub record Rooms (hull half_breadths items tanks : List ℤ) : Type 0 where
-  pub hull_room : length particulars ≤ length hull
+pub record Rooms (half_breadths items tanks : List ℤ) : Type 0 where
   pub half_breadth_room : room_for_half_breadths ≤ length half_breadths
   pub item_room : room_for_items ≤ length items
   pub tank_room : room_for_tanks ≤ length tanks

@@ -11,16 +11,16 @@ use Rattle.hydrostatics.proofs.sections.moment_sum.Goals as goal
 use Rattle.hydrostatics.proofs.sections.moment_sum.Goals.{After-loop-i}
 
 pub loop-i-init : goal.loop-i-init
-loop-i-init c = (omega arith, filling_none refl)
+loop-i-init c = filling_none refl
 
 pub overflow_mul-moments : goal.overflow_mul-moments
 overflow_mul-moments c = omega (arith, lever_fits c.requires c.loop-i.i (omega arith))
 
 pub loop-i-preserved : goal.loop-i-preserved
-loop-i-preserved c = (omega arith, filling_more c.loop-i.invariant.1 (omega arith) refl)
+loop-i-preserved c = filling_more c.loop-i.invariant (omega arith) refl
 
 room : (c : After-loop-i) → length c.args.ordinates.now ≤ length c.loop-i.moments
-room c = omega (arith, c.loop-i.invariant.1.long, c.requires.most_stations)
+room c = omega (arith, c.loop-i.invariant.long, c.requires.most_stations)
 
 pub slice_bounds-moments-end : goal.slice_bounds-moments-end
 slice_bounds-moments-end c = room c
@@ -29,7 +29,7 @@ pub slice_bounds-curve_sum-end : goal.slice_bounds-curve_sum-end
 slice_bounds-curve_sum-end c = sym (length-take-le _ _ (room (goal.at.slice_bounds-curve_sum-end c).After-loop-i))
 
 filled : (c : After-loop-i) → let o = c.args.ordinates.now in Filled 0 (λ i. get_or o i 0 * i) (length o) c.loop-i.moments
-filled c = filling_all c.loop-i.invariant.1 (omega arith)
+filled c = filling_all c.loop-i.invariant (omega arith)
 
 pub curve_sum-requires : goal.curve_sum-requires
 curve_sum-requires c =

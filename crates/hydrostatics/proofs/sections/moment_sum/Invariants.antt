@@ -1,12 +1,9 @@
 -- Each ordinate times its place is stored at its place, and the sum is over these. Assumes nothing.
-use Prim.Native.Nat.{◌+◌, ◌-◌, ◌*◌, ◌≤◌}
+use Prim.Native.Nat.{◌+◌, ◌*◌}
 use lib.ListN.{get_or}
 use Rattle.ranges.specs.Fields.{range_of, most}
 use Rattle.hydrostatics.proofs.Filling.{Filling}
 use Rattle.hydrostatics.proofs.sections.moment_sum.Given as goal
 
 abbrev pub invariant-loop-i : goal.invariant-loop-i
-invariant-loop-i l = (l.i ≤ l.count) × Filling 0 (λ i. get_or l.ordinates i 0 * i) (most (range_of 0) + 1) l.i l.moments
-
-abbrev pub decreases-loop-i : goal.decreases-loop-i
-decreases-loop-i l = l.count - l.i
+invariant-loop-i l = Filling 0 (λ i. get_or l.ordinates i 0 * i) (most (range_of 0) + 1) l.i l.moments

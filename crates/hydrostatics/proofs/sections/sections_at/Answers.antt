@@ -12,7 +12,7 @@ use Rattle.hydrostatics.proofs.sections.sections_at.Goals as goal
 use Rattle.hydrostatics.proofs.sections.sections_at.Goals.{After-section_at-section}
 
 pub loop-i-init : goal.loop-i-init
-loop-i-init c = (omega arith, filling_none refl, filling_none refl, filling_none refl, filling_none refl)
+loop-i-init c = (filling_none refl, filling_none refl, filling_none refl, filling_none refl)
 
 pub section_at-section-requires : goal.section_at-section-requires
 section_at-section-requires c = let given = c.requires in (given.0, omega (arith, c.loop-i-test.true), given.1, given.2)
@@ -31,19 +31,18 @@ loop-i-preserved c =
     let l = c.loop-i.invariant in
     let section = c.section_at-section.ensures in
     let y = section.half_breadth_is in (
-      omega arith,
-      filling_more l.1 (omega arith) section.area_is,
-      filling_more l.2 (omega arith) section.moment_is,
-      filling_more l.3 (omega arith) y,
-      filling_more l.4 (omega arith) (ap (λ y. y * y * y) y ∙ sym (pow3 _)),
+      filling_more l.0 (omega arith) section.area_is,
+      filling_more l.1 (omega arith) section.moment_is,
+      filling_more l.2 (omega arith) y,
+      filling_more l.3 (omega arith) (ap (λ y. y * y * y) y ∙ sym (pow3 _)),
     )
 
 pub returns : goal.returns
 returns c =
     let l = c.loop-i.invariant in
     record {
-      areas_are = all_along l.1 (omega arith);
-      moments_are = all_along l.2 (omega arith);
-      half_breadths_are = all_along l.3 (omega arith);
-      cubes_are = all_along l.4 (omega arith);
+      areas_are = all_along l.0 (omega arith);
+      moments_are = all_along l.1 (omega arith);
+      half_breadths_are = all_along l.2 (omega arith);
+      cubes_are = all_along l.3 (omega arith);
     }

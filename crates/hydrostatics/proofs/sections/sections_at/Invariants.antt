@@ -1,5 +1,5 @@
 -- What is made of each station is stored at its number. Assumes nothing.
-use Prim.Native.Nat.{◌+◌, ◌-◌, ◌^◌, ◌≤◌}
+use Prim.Native.Nat.{◌+◌, ◌^◌}
 use Rattle.ranges.specs.Fields.{range_of, most}
 use Rattle.hydrostatics.specs.Hull.{half_breadth}
 use Rattle.hydrostatics.specs.Private.Sections.{area_at, moment_at}
@@ -8,11 +8,7 @@ use Rattle.hydrostatics.proofs.sections.sections_at.Given as goal
 
 abbrev pub invariant-loop-i : goal.invariant-loop-i
 invariant-loop-i l =
-    (l.i ≤ l.n + 1)
-    × Filling 0 (area_at l.table l.p l.k) (most (range_of 0) + 1) l.i l.areas
+    Filling 0 (area_at l.table l.p l.k) (most (range_of 0) + 1) l.i l.areas
     × Filling 0 (moment_at l.table l.p l.k) (most (range_of 0) + 1) l.i l.moments
     × Filling 0 (λ i. half_breadth l.table l.p i l.k) (most (range_of 0) + 1) l.i l.half_breadths
     × Filling 0 (λ i. half_breadth l.table l.p i l.k ^ 3) (most (range_of 0) + 1) l.i l.cubes
-
-abbrev pub decreases-loop-i : goal.decreases-loop-i
-decreases-loop-i l = l.n + 1 - l.i

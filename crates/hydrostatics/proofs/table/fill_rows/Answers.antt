@@ -1,16 +1,9 @@
 -- Under a success the rows are written, and otherwise the table is not touched. Assumes nothing.
-use native.Mathlib.Omega.{arith}
-use Rattle.hydrostatics.proofs.Passed.{made_count, made_left, refused_on}
+use Rattle.hydrostatics.proofs.Passed.{made_left, refused_on}
 use Rattle.hydrostatics.proofs.table.fill_rows.Goals as goal
 
 pub returns-in_err-count : goal.returns-in_err-count
 returns-in_err-count c = refused_on c.in_err-count.ensures c.from_residual.ensures.1
-
-pub write_rows-requires : goal.write_rows-requires
-write_rows-requires c =
-    let count = made_count c.in_ok-count.ensures in
-    let given = c.requires in
-    (given.0, omega arith, omega arith)
 
 pub returns : goal.returns
 returns c = made_left c.in_ok-count.ensures c.write_rows.ensures

@@ -7,19 +7,16 @@ use Rattle.hydrostatics.proofs.Passing.{passing_none, passing_more, passing_all,
 use Rattle.hydrostatics.proofs.table.try_rows.Goals as goal
 
 pub loop-r-init : goal.loop-r-init
-loop-r-init c = (omega arith, passing_none)
+loop-r-init c = passing_none
 
-pub row_from-row-requires : goal.row_from-row-requires
-row_from-row-requires c = let given = c.requires in (given.particulars, given.each _ (omega arith))
-
-pub returns-then-displacement-before : goal.returns-then-displacement-before
-returns-then-displacement-before c = refusal (too_low c.loop-r.invariant.1 c.row_from-row.ensures c.if-displacement-before.true _ (omega arith)) (ap (λ r. paper (Err r)) c.at.ensures)
+pub returns-then-row-before : goal.returns-then-row-before
+returns-then-row-before c = refusal (too_low c.loop-r.invariant c.row_from-row.ensures c.if-row-before.true _ (omega arith)) (ap (λ r. paper (Err r)) c.at.ensures)
 
 pub returns-then-row-gt-HIGHEST_METACENTRE : goal.returns-then-row-gt-HIGHEST_METACENTRE
-returns-then-row-gt-HIGHEST_METACENTRE c = refusal (too_high c.loop-r.invariant.1 c.row_from-row.ensures c.if-displacement-before.false c.if-row-gt-HIGHEST_METACENTRE.true _ (omega arith)) (ap (λ r. paper (Err r)) c.at-then-row-gt-HIGHEST_METACENTRE.ensures)
+returns-then-row-gt-HIGHEST_METACENTRE c = refusal (too_high c.loop-r.invariant c.row_from-row.ensures c.if-row-before.false c.if-row-gt-HIGHEST_METACENTRE.true _ (omega arith)) (ap (λ r. paper (Err r)) c.at-then-row-gt-HIGHEST_METACENTRE.ensures)
 
 pub loop-r-preserved : goal.loop-r-preserved
-loop-r-preserved c = (omega arith, passing_more c.loop-r.invariant.1 c.row_from-row.ensures c.if-displacement-before.false c.if-row-gt-HIGHEST_METACENTRE.false)
+loop-r-preserved c = (passing_more c.loop-r.invariant c.row_from-row.ensures c.if-row-before.false c.if-row-gt-HIGHEST_METACENTRE.false)
 
 pub returns : goal.returns
-returns c = passing_all c.loop-r.invariant.1 (omega arith)
+returns c = passing_all c.loop-r.invariant (omega arith)

@@ -1,11 +1,7 @@
 -- The table holds the rows that are written, one after another, and what stood beyond them. Assumes nothing.
-use Prim.Native.Nat.{◌-◌, ◌≤◌}
 use Rattle.hydrostatics.specs.Private.Table.{rows_from}
 use Rattle.hydrostatics.proofs.Writing.{Written}
 use Rattle.hydrostatics.proofs.table.write_rows.Given as goal
 
 abbrev pub invariant-loop-r : goal.invariant-loop-r
-invariant-loop-r l = (l.r ≤ l.count) × Written (rows_from l.p l.sums) l.initial.rows l.r l.rows
-
-abbrev pub decreases-loop-r : goal.decreases-loop-r
-decreases-loop-r l = l.count - l.r
+invariant-loop-r l = Written (rows_from l.p l.sums) l.initial.rows l.r l.rows

@@ -1,12 +1,9 @@
 -- Each multiplier is stored at its station. Assumes nothing.
-use Prim.Native.Nat.{◌+◌, ◌-◌, ◌≤◌}
+use Prim.Native.Nat.{◌+◌}
 use Rattle.ranges.specs.Fields.{range_of, most}
 use Rattle.simpson.specs.Multipliers.{multiplier}
 use Rattle.hydrostatics.proofs.Filling.{Filling}
 use Rattle.hydrostatics.proofs.waterplanes.station_multipliers.Given as goal
 
 abbrev pub invariant-loop-i : goal.invariant-loop-i
-invariant-loop-i l = (l.i ≤ l.n + 1) × Filling 0 (multiplier l.n) (most (range_of 0) + 1) l.i l.u
-
-abbrev pub decreases-loop-i : goal.decreases-loop-i
-decreases-loop-i l = l.n + 1 - l.i
+invariant-loop-i l = Filling 0 (multiplier l.n) (most (range_of 0) + 1) l.i l.u

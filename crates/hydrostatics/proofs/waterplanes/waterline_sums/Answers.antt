@@ -14,8 +14,9 @@ use Rattle.hydrostatics.specs.Private.Waterplanes.{most_x}
 use Rattle.hydrostatics.proofs.Exchange.{Q_is, X_is, C_is}
 use Rattle.hydrostatics.proofs.Sweep.{q_most, x_most, c_most}
 use Rattle.hydrostatics.proofs.Tried.{line_outside}
+use Rattle.hydrostatics.proofs.Keeping.{line_same}
 use Rattle.hydrostatics.proofs.waterplanes.waterline_sums.Goals as goal
-use Rattle.hydrostatics.proofs.waterplanes.waterline_sums.Goals.{After-uy-1}
+use Rattle.hydrostatics.proofs.waterplanes.waterline_sums.Goals.{After-row_known-1}
 
 pub loop-i-init : goal.loop-i-init
 loop-i-init c =
@@ -23,20 +24,20 @@ loop-i-init c =
     (below_none (λ k. half_breadth s.table.now s.p k s.j ≤ most (range_of 5)), swept_none, swept_none, swept_none)
 
 pub half_breadth_at-y-requires : goal.half_breadth_at-y-requires
-half_breadth_at-y-requires c = let given = c.requires in (given.0.hull, c.loop-i-test.true, given.1)
+half_breadth_at-y-requires c = let given = c.requires in (given.0.hull, omega (arith, given.0.long), given.1)
 
 pub returns-then-not-is_within : goal.returns-then-not-is_within
 returns-then-not-is_within c =
     let given = c.requires in
     line_outside given.0.hull (omega arith) given.1 c.half_breadth_at-y.ensures (sym c.is_within.ensures ∙ c.if-not-is_within.true)
 
-y_most : (c : After-uy-1) → c.half_breadth_at-y.result ≤ most (range_of 5)
+y_most : (c : After-row_known-1) → c.half_breadth_at-y.result ≤ most (range_of 5)
 y_most c =
     (within_whole (range_of 5) _ (sym c.is_within.ensures ∙ c.if-not-is_within.false)).1
 
 pub loop-i-preserved : goal.loop-i-preserved
 loop-i-preserved c =
-    let u = c.requires.0.multipliers.at c.loop-i.i (omega arith) in
+    let u = c.requires.0.multipliers.at c.loop-i.i (omega (arith, c.requires.0.long)) in
     let y = c.half_breadth_at-y.ensures in
     let line : ℕ → ℕ = λ i. half_breadth c.args.table.now c.args.p i c.args.j in (
       below_more (λ k. line k ≤ most (range_of 5)) c.loop-i.i c.loop-i.invariant.0 (subst (λ v. v ≤ most (range_of 5)) y (y_most c)),
@@ -47,10 +48,10 @@ loop-i-preserved c =
 
 -- so none of the three sums is too large with this station's terms
 sums_most :
-    (c : After-uy-1)
+    (c : After-row_known-1)
     → let l = c.loop-i in
     let y = c.half_breadth_at-y.result in
-    let uy = get_or c.args.u.now l.i 0 * y in
+    let uy = get_or c.args.stations.now l.i 0 * y in
     (l.q + uy ≤ most_q) × (l.x + uy * l.i ≤ most_x) × (l.c + uy * (y * y) ≤ most_c)
 sums_most c =
     let range = c.requires.0.hull.particulars in
@@ -82,9 +83,10 @@ pub returns : goal.returns
 returns c =
     let s = c.args in
     let inv = c.loop-i.invariant in
+    let long = c.requires.0.long in
     record {
-      is_in_range = λ i h. inv.0 i (omega arith);
-      q_is = swept_all inv.1 (omega arith) ∙ sym (Q_is s.table.now s.p s.j);
-      x_is = swept_all inv.2 (omega arith) ∙ sym (X_is s.table.now s.p s.j);
-      c_is = swept_all inv.3 (omega arith) ∙ sym (C_is s.table.now s.p s.j);
+      is_in_range = λ i h. inv.0 i (omega (arith, long));
+      is =
+          line_same (swept_all inv.1 (omega (arith, long)) ∙ sym (Q_is s.table.now s.p s.j)) (swept_all inv.2 (omega (arith, long)) ∙ sym (X_is s.table.now s.p s.j))
+          (swept_all inv.3 (omega (arith, long)) ∙ sym (C_is s.table.now s.p s.j));
     }

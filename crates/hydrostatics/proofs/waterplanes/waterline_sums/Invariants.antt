@@ -1,5 +1,5 @@
 -- The sums are those of the stations passed, whose half-breadths are in range; so they are small. Assumes nothing.
-use Prim.Native.Nat.{ℕ, ◌+◌, ◌-◌, ◌*◌, ◌^◌, ◌≤◌, ◌<◌}
+use Prim.Native.Nat.{ℕ, ◌*◌, ◌^◌, ◌≤◌, ◌<◌}
 use Rattle.ranges.specs.Fields.{range_of, most}
 use Rattle.simpson.proofs.Sweep.{Swept}
 use Rattle.hydrostatics.specs.Hull.{half_breadth}
@@ -8,9 +8,6 @@ use Rattle.hydrostatics.proofs.waterplanes.waterline_sums.Given as goal
 abbrev pub invariant-loop-i : goal.invariant-loop-i
 invariant-loop-i l =
     ((k : ℕ) → k < l.i → half_breadth l.table l.p k l.j ≤ most (range_of 5))
-    × Swept l.n (λ i. half_breadth l.table l.p i l.j) l.i l.q
-    × Swept l.n (λ i. half_breadth l.table l.p i l.j * i) l.i l.x
-    × Swept l.n (λ i. half_breadth l.table l.p i l.j ^ 3) l.i l.c
-
-abbrev pub decreases-loop-i : goal.decreases-loop-i
-decreases-loop-i l = l.n + 1 - l.i
+    × Swept l.p.n (λ i. half_breadth l.table l.p i l.j) l.i l.q
+    × Swept l.p.n (λ i. half_breadth l.table l.p i l.j * i) l.i l.x
+    × Swept l.p.n (λ i. half_breadth l.table l.p i l.j ^ 3) l.i l.c

@@ -1,72 +1,56 @@
--- The steps of the reading are those that the file's tokens ask, one after another. Assumes nothing.
-use Prim.Native.Nat.{◌*◌}
-use mathlib.Core.Path.{◌≡◌, ap}
-use lib.ListN.{length}
+-- Each step of the reading is one of the file's. Assumes nothing.
+use mathlib.Core.Path.{◌≡◌, ◌∙◌}
 use native.Mathlib.Omega.{arith}
-use borrow.Author.Rules.{rules}
-use Rattle.ranges.specs.Sizes.{item_width, tank_width}
-use Rattle.offsets.proofs.Chain.{Steps, points_room, parses_refused, parses_whole}
+use Rattle.std.proofs.lemmas.Result.{err_from_is_err_and}
+use Rattle.offsets.proofs.Chain.{stops_at_count, stops_at_hull, hull_in_range, stops_at_grid, stops_at_items, stops_at_tanks, stops_at_end, all_read, from_start}
+use Rattle.ranges.specs.Sizes.{points_of}
+use Rattle.offsets.proofs.Sound.{points_most}
 use Rattle.offsets.proofs.reader.parse.Goals as goal
-use Rattle.offsets.proofs.reader.parse.Goals.{After-finish}
 
-steps :
-    (c : After-finish)
-    → Steps c.args.text.now
-    c.hull_after-hull_read.new.hull
-    c.numbers_after-grid_read.new.table
-    c.numbers_after-aboard_read.new.table
-    c.numbers_after-held_read.new.table
-    c.count_after-five.result
-    c.hull_after-hull_read.result
-    c.count_after-grid.result
-    c.numbers_after-grid_read.result
-    c.count_after-aboard.result
-    c.numbers_after-aboard_read.result
-    c.count_after-held.result
-    c.numbers_after-held_read.result
-    c.finish.result
-    c.count_of-point_count.result
-    (item_width * c.count_of-item_count.result)
-    (tank_width * c.count_of-tank_count.result)
-steps c =
-    record {
-      count_five = c.count_after-five.ensures;
-      hull_numbers = c.hull_after-hull_read.ensures;
-      count_grid = rw c.points_in-points.ensures at c.count_after-grid.ensures;
-      grid_numbers = c.numbers_after-grid_read.ensures;
-      points_are = c.count_of-point_count.ensures;
-      count_aboard = c.count_after-aboard.ensures;
-      aboard_numbers = c.numbers_after-aboard_read.ensures;
-      items_are = ap (λ k. item_width * k) c.count_of-item_count.ensures;
-      count_held = c.count_after-held.ensures;
-      held_numbers = c.numbers_after-held_read.ensures;
-      tanks_are = ap (λ k. tank_width * k) c.count_of-tank_count.ensures;
-      finished = c.finish.ensures;
-    }
+pub points_of-points-requires : goal.points_of-points-requires
+points_of-points-requires c = hull_in_range c.in_ok-count.ensures.reads c.in_ok-particulars.ensures
 
--- the hull's table keeps its length
-hull_length : (c : After-finish) → length c.hull_after-hull_read.new.hull ≡ length c.args.hull.now
-hull_length c =
-    c.hull_after-hull_read.auto.hull
+pub section-requires : goal.section-requires
+section-requires c =
+    let range = hull_in_range c.in_ok-count.ensures.reads c.in_ok-particulars.ensures in
+    omega (arith, points_most range.0 range.1, c.points_of-points.ensures, c.requires.half_breadth_room)
 
-pub numbers_after-grid_read-requires : goal.numbers_after-grid_read-requires
-numbers_after-grid_read-requires c =
-    let hull = c.hull_after-hull_read.new.hull in
-    (search rules, search rules, omega (arith, c.count_of-point_count.ensures, c.count_after-grid.ensures.bounded, c.points_in-points.ensures, points_room hull))
+pub returns-in_err-count : goal.returns-in_err-count
+returns-in_err-count c =
+    let p = err_from_is_err_and c.from_residual.result c.from_residual.ensures.1 in
+    rw (p.1, p.2) (record { read = from_start c.args.text.now ∙ stops_at_count c.in_err-count.ensures.reads; fits = tt })
 
-pub numbers_after-held_read-requires : goal.numbers_after-held_read-requires
-numbers_after-held_read-requires c = (search rules, search rules, omega (arith, c.count_of-tank_count.ensures, c.count_after-held.ensures.bounded, c.requires.tank_room))
+pub returns-in_err-particulars : goal.returns-in_err-particulars
+returns-in_err-particulars c =
+    let p = err_from_is_err_and c.from_residual-in_err-particulars.result c.from_residual-in_err-particulars.ensures.1 in
+    rw (p.1, p.2) (record { read = from_start c.args.text.now ∙ stops_at_hull c.in_ok-count.ensures.reads c.in_err-particulars.ensures; fits = tt })
 
-pub shape_of-hull-in-Refused : goal.shape_of-hull-in-Refused
-shape_of-hull-in-Refused c = hull_length (goal.at.shape_of-hull-in-Refused c).After-finish
+pub returns-in_err-section : goal.returns-in_err-section
+returns-in_err-section c =
+    let p = err_from_is_err_and c.from_residual-in_err-section.result c.from_residual-in_err-section.ensures.1 in
+    rw (p.1, p.2) (record { read = from_start c.args.text.now ∙ stops_at_grid c.in_ok-count.ensures.reads c.in_ok-particulars.ensures _ (rw c.points_of-points.ensures at c.in_err-section.ensures.reads); fits = tt })
 
-pub returns-in-Refused : goal.returns-in-Refused
-returns-in-Refused c = parses_refused _ _ _ _ _ _ _ _ _ _ _ _ _ _ _ _ _ (steps (goal.at.returns-in-Refused c).After-finish) _ c.in-Refused.is
+pub returns-in_err-item_count : goal.returns-in_err-item_count
+returns-in_err-item_count c =
+    let p = err_from_is_err_and c.from_residual-in_err-item_count.result c.from_residual-in_err-item_count.ensures.1 in
+    rw (p.1, p.2) (record { read = from_start c.args.text.now ∙ stops_at_items c.in_ok-count.ensures.reads c.in_ok-particulars.ensures _ (rw c.points_of-points.ensures at c.in_ok-section.ensures.reads) _ c.in_err-item_count.ensures.reads; fits = tt })
 
-pub shape_of-hull-in-At : goal.shape_of-hull-in-At
-shape_of-hull-in-At c = hull_length (goal.at.shape_of-hull-in-At c).After-finish
+pub returns-in_err-tank_count : goal.returns-in_err-tank_count
+returns-in_err-tank_count c =
+    let p = err_from_is_err_and c.from_residual-in_err-tank_count.result c.from_residual-in_err-tank_count.ensures.1 in
+    rw (p.1, p.2) (record { read = from_start c.args.text.now ∙ stops_at_tanks c.in_ok-count.ensures.reads c.in_ok-particulars.ensures _ (rw c.points_of-points.ensures at c.in_ok-section.ensures.reads) _ c.in_ok-item_count.ensures.reads _ c.in_err-tank_count.ensures.reads; fits = tt })
 
-pub returns-in-At : goal.returns-in-At
-returns-in-At c =
-    rw (c.count_of-point_count.ensures, c.count_of-item_count.ensures, c.count_of-tank_count.ensures)
-    (parses_whole _ _ _ _ _ _ _ _ _ _ _ _ _ _ _ _ _ (steps (goal.at.returns-in-At c).After-finish) _ _ c.in-At.is)
+pub returns-in_err-finish : goal.returns-in_err-finish
+returns-in_err-finish c =
+    let p = err_from_is_err_and c.from_residual-in_err-finish.result c.from_residual-in_err-finish.ensures.1 in
+    rw (p.1, p.2) (record { read = from_start c.args.text.now ∙ stops_at_end c.in_ok-count.ensures.reads c.in_ok-particulars.ensures _ (rw c.points_of-points.ensures at c.in_ok-section.ensures.reads) _ c.in_ok-item_count.ensures.reads _ c.in_ok-tank_count.ensures.reads _ c.in_err-finish.ensures; fits = tt })
+
+pub returns : goal.returns
+returns c =
+    let range = hull_in_range c.in_ok-count.ensures.reads c.in_ok-particulars.ensures in
+    let grid = rw c.points_of-points.ensures at c.in_ok-section.ensures in
+    let read =
+    all_read c.in_ok-count.ensures.reads c.in_ok-particulars.ensures _ grid.reads _ c.in_ok-item_count.ensures.reads _ c.in_ok-tank_count.ensures.reads c.in_ok-finish.ensures
+    in
+    let points : c.in_ok-section.field-0 ≡ points_of c.in_ok-particulars.particulars.n c.in_ok-particulars.particulars.m = omega (arith, grid.bounded) in
+    record { read = from_start c.args.text.now ∙ rw points at read; fits = (range.0, range.1, c.in_ok-item_count.ensures.bounded.1, c.in_ok-tank_count.ensures.bounded.1) }

@@ -1,49 +1,37 @@
 -- The file is read into room of the reader's own, and what it says is copied. Assumes nothing.
-use Rattle.offsets.specs.Private.Steps.{Rooms}
-use Rattle.ranges.specs.Sizes.{room_for_half_breadths, most_items, most_tanks}
-use Prim.Native.Nat.{◌≤◌}
+use Prim.Native.Nat.{◌*◌, ◌≤◌}
+use mathlib.Core.Path.{◌≡◌, ap, ◌∙◌}
+use mathlib.Core.List.{◌++◌}
 use native.Mathlib.Omega.{arith}
+use lib.ListN.{length, drop}
+use lib.Seq.{length-take-le}
+use Rattle.ranges.specs.Sizes.{points_of, item_width, tank_width}
+use Rattle.std.proofs.lemmas.Result.{err_from_is_err_and}
+use Rattle.offsets.specs.Private.Steps.{Rooms}
+use Rattle.offsets.proofs.Sound.{points_most}
 use Rattle.offsets.proofs.Answers.{file_refused, sheet}
 use Rattle.offsets.proofs.reader.read_sized.Goals as goal
-use Rattle.offsets.proofs.reader.read_sized.Goals.{After-parse, In-Whole}
+use Rattle.offsets.proofs.reader.read_sized.Goals.{After-parse}
 
 -- the room that the file is read into has kept its length
-rooms : (c : After-parse) → Rooms c.parse.new.hull c.parse.new.half_breadths c.parse.new.items c.parse.new.tanks
+rooms : (c : After-parse) → Rooms c.parse.new.half_breadths c.parse.new.items c.parse.new.tanks
 rooms c =
-    let k = c.parse.auto in record {
-      hull_room = omega (arith, k.hull);
-      half_breadth_room = omega (arith, k.half_breadths);
-      item_room = omega (arith, k.items);
-      tank_room = omega (arith, k.tanks);
-    }
+    let k = c.parse.auto in record { half_breadth_room = omega (arith, k.half_breadths); item_room = omega (arith, k.items); tank_room = omega (arith, k.tanks) }
 
--- a whole file fits it
-fits : (c : In-Whole) → (c.in-Whole.points ≤ room_for_half_breadths) × (c.in-Whole.item_count ≤ most_items) × (c.in-Whole.tank_count ≤ most_tanks)
-fits c = rw c.in-Whole.is at c.parse.ensures.fits
+pub returns-in_err-summary : goal.returns-in_err-summary
+returns-in_err-summary c =
+    let p = err_from_is_err_and c.from_residual.result c.from_residual.ensures.1 in
+    rw (p.1, p.2) (file_refused _ _ _ _ c.requires _ _ _ _ c.in_err-summary.ensures)
 
-pub copy_whole-requires : goal.copy_whole-requires
-copy_whole-requires c =
-    let r = rooms (goal.at.copy_whole-requires c).After-parse in
-    (omega (arith, (fits (goal.at.copy_whole-requires c).In-Whole).0, r.half_breadth_room), omega (arith, (fits (goal.at.copy_whole-requires c).In-Whole).0, c.requires.half_breadth_room))
-
-pub overflow_mul-item_count : goal.overflow_mul-item_count
-overflow_mul-item_count c = omega (arith, (fits (goal.at.overflow_mul-item_count c).In-Whole).1)
-
-pub copy-requires : goal.copy-requires
-copy-requires c =
-    let r = rooms (goal.at.copy-requires c).After-parse in
-    (omega (arith, (fits (goal.at.copy-requires c).In-Whole).1, r.item_room), omega (arith, (fits (goal.at.copy-requires c).In-Whole).1, c.requires.item_room))
-
-pub overflow_mul-tank_count : goal.overflow_mul-tank_count
-overflow_mul-tank_count c = omega (arith, (fits (goal.at.overflow_mul-tank_count c).In-Whole).2)
-
-pub copy-requires-in-Whole : goal.copy-requires-in-Whole
-copy-requires-in-Whole c =
-    let r = rooms (goal.at.copy-requires-in-Whole c).After-parse in
-    (omega (arith, (fits (goal.at.copy-requires-in-Whole c).In-Whole).2, r.tank_room), omega (arith, (fits (goal.at.copy-requires-in-Whole c).In-Whole).2, c.requires.tank_room))
-
-pub returns-in-Refused : goal.returns-in-Refused
-returns-in-Refused c = file_refused _ _ _ _ c.requires _ _ _ _ _ c.parse.ensures _ c.in-Refused.is
-
-pub returns-in-Whole : goal.returns-in-Whole
-returns-in-Whole c = sheet _ _ _ _ c.requires _ _ _ _ _ c.parse.ensures _ _ _ c.in-Whole.is (rooms (goal.at.returns-in-Whole c).After-parse) _ _ _ c.particulars_of-particulars.ensures c.copy_whole.ensures c.copy.ensures c.copy-in-Whole.ensures
+pub returns : goal.returns
+returns c =
+    let summary = c.in_ok-summary.summary in
+    let read = c.in_ok-summary.ensures in
+    let rooms = rooms (goal.at.returns c).After-parse in
+    let points = points_of summary.particulars.n summary.particulars.m in
+    let one : 1 * points ≡ points = omega arith in
+    let fits : points ≤ length c.parse.new.half_breadths = omega (arith, points_most read.fits.0 read.fits.1, rooms.half_breadth_room) in
+    sheet _ _ _ _ c.requires _ _ _ summary read rooms _ _ _
+    (c.copy_sizes.ensures ∙ rw (c.points_of.ensures, length-take-le points c.parse.new.half_breadths fits, one))
+    (ap (λ read. read ++ drop (item_width * summary.items) c.args.items.now) c.copy_from_slice.ensures.after)
+    (ap (λ read. read ++ drop (tank_width * summary.tanks) c.args.tanks.now) c.copy_from_slice-2.ensures.after)
