@@ -3,13 +3,15 @@
 --     reader_numbered             the call's outcome
 -- Assumes nothing.
 use Prim.Native.Nat.{ℕ, ◌≤◌}
+use mathlib.Core.Bool.{true}
 use mathlib.Core.List.{List, [], ◌∷◌}
+use mathlib.Core.Path.{◌≡◌, refl}
 use native.Mathlib.Omega.{arith}
 use lib.ListN.{length}
 use Rattle.ranges.specs.Fields.{Range, ◌to◌, particulars, half_breadth, item, tank}
 use Rattle.ranges.specs.Limits.{limits}
 use Rattle.ranges.specs.Outcome.{Numbered}
-use Rattle.ranges.specs.Refusals.{first_refusal, last_refusal, count_not_allowed, out_of_range}
+use Rattle.ranges.specs.Refusals.{first_refusal, last_refusal, is_given, count_not_allowed, out_of_range}
 use Rattle.ranges.specs.Sizes.{most_items, most_tanks}
 use Rattle.ranges.proofs.Numbered.{numbered, answered_numbered, then_numbered}
 use Rattle.offsets.specs.File.{Contents, points, records, hull_by, section, complete, file_by, file}
@@ -18,21 +20,21 @@ use Rattle.offsets.specs.Reading.{one, count, numbers}
 use Rattle.offsets.specs.Tokens.{Token, number, no_number, tokens}
 
 module _ (len : ℕ) where
-  pub one_numbered : (why : ℕ) (range : Range) (ts : List Token) → first_refusal ≤ why → why ≤ last_refusal → Numbered (one len why range ts)
+  pub one_numbered : (why : ℕ) (range : Range) (ts : List Token) → first_refusal ≤ why → why ≤ last_refusal → is_given why ≡ true → Numbered (one len why range ts)
   unfolding one
-  one_numbered why range [] least most = search numbered
-  one_numbered why range (no_number place ∷ ts) least most = search numbered
-  one_numbered why range (number place v ∷ ts) least most = search numbered
+  one_numbered why range [] least most given = search numbered
+  one_numbered why range (no_number place ∷ ts) least most given = search numbered
+  one_numbered why range (number place v ∷ ts) least most given = search numbered
 
   pub count_numbered : (least most : ℕ) (ts : List Token) → Numbered (count len least most ts)
   unfolding count
-  count_numbered least most ts = then_numbered (one_numbered count_not_allowed (least to most) ts (omega arith) (omega arith)) (λ read. answered_numbered _)
+  count_numbered least most ts = then_numbered (one_numbered count_not_allowed (least to most) ts (omega arith) (omega arith) refl) (λ read. answered_numbered _)
 
   pub numbers_numbered : (ranges : List Range) (ts : List Token) → Numbered (numbers len ranges ts)
   unfolding numbers
   numbers_numbered [] ts = answered_numbered _
   numbers_numbered (range ∷ ranges) ts =
-      then_numbered (one_numbered out_of_range range ts (omega arith) (omega arith)) (λ read. then_numbered (numbers_numbered ranges read.1) (λ read. answered_numbered _))
+      then_numbered (one_numbered out_of_range range ts (omega arith) (omega arith) refl) (λ read. then_numbered (numbers_numbered ranges read.1) (λ read. answered_numbered _))
 
   pub hull_numbered : (ts : List Token) → Numbered (hull_by len limits ts)
   unfolding hull_by

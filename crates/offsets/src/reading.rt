@@ -9,9 +9,6 @@ use crate::tokens;
 use crate::tokens::Found;
 use ranges::{Bounds, Number, PARTICULAR_COUNT, Particulars, Reason, Record, Refusal};
 
-// s, the third particular.
-const SPACING: usize = 2;
-
 // Where reading stands in a text.
 #[derive(Clone, Copy)]
 pub(crate) struct Cursor<'a> {
@@ -85,7 +82,7 @@ impl<'a> Cursor<'a> {
         self.numbers(Record::Particulars, &mut numbers)?;
         let particulars = Particulars::from(sizes(numbers));
         if ranges::is_too_long(particulars) {
-            let spacing = tokens::place_after(self.text, start, SPACING);
+            let spacing = tokens::place_after(self.text, start, ranges::SPACING);
             return Err(Reason::OutOfRange.at(spacing.unwrap_or(self.text.len())));
         }
         Ok(particulars)

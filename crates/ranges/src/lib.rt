@@ -52,7 +52,7 @@ pub const INCLINING_WIDTH: usize = 4;
 pub const SHIFT_WIDTH: usize = 3;
 
 // s, the third particular.
-const SPACING: usize = 2;
+pub const SPACING: usize = 2;
 
 // The greatest length, n·s, in mm.
 pub const LONGEST_HULL: u64 = 100_000;
