@@ -1,6 +1,7 @@
 // The rows of a hull, by waterplanes and by sections, and their display.
 #![tactic(auto)]
 
+mod hull;
 mod sections;
 mod table;
 mod waterplanes;
@@ -17,9 +18,9 @@ ghost use Rattle.ranges.specs.Private.Bounds.{place_in};
 ghost use Rattle.ranges.specs.Reasons.{paper};
 ghost use Rattle.ranges.specs.Sizes.{row_width};
 ghost use Rattle.hydrostatics.specs.Row.{numbers_of};
-ghost use Rattle.hydrostatics.specs.Private.Hull.{Complete};
 ghost use Rattle.hydrostatics.specs.Private.Sums.{TriedSums};
 
+use hull::Hull;
 use ranges::{Particulars, Reason, Record, Refusal};
 use table::{Sums, fill_rows};
 
@@ -90,14 +91,14 @@ impl Row {
 }
 
 // The rows of a hull into the lent table, by any way of making the sums of a complete one.
-fn make_by<F: Fn(&[u64], Particulars) -> Option<[Sums; MOST_ROWS]>>(
+fn make_by<F: Fn(Hull) -> Option<[Sums; MOST_ROWS]>>(
     sums_of: F,
     half_breadths: &[u64],
     p: Particulars,
     rows: &mut [u64],
 ) -> Result<usize, Refusal>
-    requires can { Complete half_breadths.now p → F.pre sums_of half_breadths p }
-    requires makes { (sums : _) → F.post sums_of half_breadths p sums → TriedSums half_breadths.now p sums }
+    requires can { F.IsAlwaysCallable sums_of }
+    requires makes { (hull : _) (sums : _) → F.post sums_of hull sums → TriedSums hull.half_breadths.now hull.particulars sums }
     ensures { MakesRows half_breadths.now p rows.old rows.new result }
 {
     if let Some(place) = ranges::bad_particular(p) {
@@ -110,7 +111,11 @@ fn make_by<F: Fn(&[u64], Particulars) -> Option<[Sums; MOST_ROWS]>>(
     if rows.len() < ROW_WIDTH * count {
         return Err(Reason::WrongSize.at(Refusal::ROW_TABLE));
     }
-    let Some(sums) = sums_of(half_breadths, p) else {
+    let hull = Hull {
+        half_breadths,
+        particulars: p,
+    };
+    let Some(sums) = sums_of(hull) else {
         // The first one out of range is looked for only where there is one.
         let outside = ranges::first_outside(half_breadths, Record::HalfBreadth).unwrap();
         return Err(Reason::OutOfRange.at(Refusal::HALF_BREADTHS_AT + outside));

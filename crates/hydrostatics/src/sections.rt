@@ -2,13 +2,13 @@
 // waterline, then the stations' along the length.
 ghost use Rattle.std.specs.Prelude.{◌≡◌, ◌≤◌};
 ghost use Rattle.hydrostatics.specs.Row.{sums_at, waterline_of};
-ghost use Rattle.hydrostatics.specs.Private.Hull.{Complete, InRange};
 ghost use Rattle.hydrostatics.specs.Private.Sections.{curve_from, curve_of, moment_of, Covers, Summable, Balanced, SectionOf, SectionsOf};
 ghost use Rattle.hydrostatics.specs.Private.Sums.{MakesSums, TriedSums};
 
 use crate::MOST_ROWS;
+use crate::hull::{Hull, RangedHull};
 use crate::table::{FIRST_WATERLINE, NO_SUMS, Sums};
-use ranges::{MOST_STATIONS, Particulars, Record};
+use ranges::{MOST_STATIONS, Record};
 use simpson::{
     FIRST_BETWEEN, FIRST_END, FIRST_INTERVALS, SECOND_BETWEEN, SECOND_END, SECOND_INTERVALS,
 };
@@ -79,88 +79,96 @@ fn moment_sum(ordinates: &[u64]) -> u64
     curve_sum(&moments[..ordinates.len()])
 }
 
-// Station i up to waterline k.
-fn section_at(table: &[u64], p: Particulars, i: usize, k: usize) -> Section
-    requires { (InRange table.now p) × (i ≤ p.n) × (waterline_of 0 ≤ k) × (k ≤ p.m) }
-    ensures { SectionOf table.now p i k result }
-{
-    let keel = i * (p.m + 1);
-    let station = &table[keel..keel + k + 1];
-    let area = curve_sum(station);
-    let moment = moment_sum(station);
-    let half_breadth = station[k];
-    Section {
-        area,
-        moment,
-        half_breadth,
+impl RangedHull<'_> {
+    // Station i up to waterline k.
+    fn section_at(&self, i: usize, k: usize) -> Section
+        requires { (i ≤ self.now.particulars.n) × (waterline_of 0 ≤ k) × (k ≤ self.now.particulars.m) }
+        ensures { SectionOf self.now.half_breadths.now self.now.particulars i k result }
+    {
+        let keel = i * (self.particulars.m + 1);
+        let station = &self.half_breadths[keel..keel + k + 1];
+        let area = curve_sum(station);
+        let moment = moment_sum(station);
+        let half_breadth = station[k];
+        Section {
+            area,
+            moment,
+            half_breadth,
+        }
+    }
+
+    // Every station up to waterline k.
+    fn sections_at(&self, k: usize) -> Sections
+        requires { (waterline_of 0 ≤ k) × (k ≤ self.now.particulars.m) }
+        ensures { SectionsOf self.now.half_breadths.now self.now.particulars k result }
+    {
+        let mut areas = [0u64; MOST_STATIONS];
+        let mut moments = [0u64; MOST_STATIONS];
+        let mut half_breadths = [0u64; MOST_STATIONS];
+        let mut cubes = [0u64; MOST_STATIONS];
+        for i in 0..self.particulars.n + 1 {
+            let section = self.section_at(i, k);
+            let y = section.half_breadth;
+            areas[i] = section.area;
+            moments[i] = section.moment;
+            half_breadths[i] = y;
+            cubes[i] = y * y * y;
+        }
+        Sections {
+            areas,
+            moments,
+            half_breadths,
+            cubes,
+        }
+    }
+
+    // The five sums of the row of waterline k: along the length, the sections' and the waterline's own.
+    fn sums_at(&self, k: usize) -> Sums
+        requires { (waterline_of 0 ≤ k) × (k ≤ self.now.particulars.m) }
+        ensures { result ≡ sums_at self.now.half_breadths.now self.now.particulars k }
+    {
+        let stations = self.particulars.n + 1;
+        let Sections {
+            areas,
+            moments,
+            half_breadths,
+            cubes,
+        } = self.sections_at(k);
+        Sums {
+            sum: curve_sum(&areas[..stations]),
+            sz: curve_sum(&moments[..stations]),
+            sx: moment_sum(&areas[..stations]),
+            q: curve_sum(&half_breadths[..stations]),
+            c: curve_sum(&cubes[..stations]),
+        }
+    }
+
+    // The five sums of every row.
+    fn sums_of_rows(&self) -> [Sums; MOST_ROWS]
+        ensures { MakesSums self.now.half_breadths.now self.now.particulars result }
+    {
+        let mut sums = [NO_SUMS; MOST_ROWS];
+        for r in 0..self.particulars.m - 1 {
+            sums[r] = self.sums_at(r + FIRST_WATERLINE);
+        }
+        sums
     }
 }
 
-// Every station up to waterline k.
-fn sections_at(table: &[u64], p: Particulars, k: usize) -> Sections
-    requires { (InRange table.now p) × (waterline_of 0 ≤ k) × (k ≤ p.m) }
-    ensures { SectionsOf table.now p k result }
+// The five sums of every row of a hull, whose half-breadths are tried first; none where one is out of range.
+pub(crate) fn hull_sums(hull: Hull) -> Option<[Sums; MOST_ROWS]>
+    ensures { TriedSums hull.entry.half_breadths.now hull.entry.particulars result }
 {
-    let mut areas = [0u64; MOST_STATIONS];
-    let mut moments = [0u64; MOST_STATIONS];
-    let mut half_breadths = [0u64; MOST_STATIONS];
-    let mut cubes = [0u64; MOST_STATIONS];
-    for i in 0..p.n + 1 {
-        let section = section_at(table, p, i, k);
-        let y = section.half_breadth;
-        areas[i] = section.area;
-        moments[i] = section.moment;
-        half_breadths[i] = y;
-        cubes[i] = y * y * y;
-    }
-    Sections {
-        areas,
-        moments,
+    let Hull {
         half_breadths,
-        cubes,
-    }
-}
-
-// The five sums of the row of waterline k: along the length, the sections' and the waterline's own.
-fn sums_at(table: &[u64], p: Particulars, k: usize) -> Sums
-    requires { (InRange table.now p) × (waterline_of 0 ≤ k) × (k ≤ p.m) }
-    ensures { result ≡ sums_at table.now p k }
-{
-    let stations = p.n + 1;
-    let Sections {
-        areas,
-        moments,
-        half_breadths,
-        cubes,
-    } = sections_at(table, p, k);
-    Sums {
-        sum: curve_sum(&areas[..stations]),
-        sz: curve_sum(&moments[..stations]),
-        sx: moment_sum(&areas[..stations]),
-        q: curve_sum(&half_breadths[..stations]),
-        c: curve_sum(&cubes[..stations]),
-    }
-}
-
-// The five sums of every row of a hull in range.
-fn sums_of_rows(table: &[u64], p: Particulars) -> [Sums; MOST_ROWS]
-    requires { InRange table.now p }
-    ensures { MakesSums table.now p result }
-{
-    let mut sums = [NO_SUMS; MOST_ROWS];
-    for r in 0..p.m - 1 {
-        sums[r] = sums_at(table, p, r + FIRST_WATERLINE);
-    }
-    sums
-}
-
-// The five sums of every row of a complete hull, whose half-breadths are tried first; none where one is out of range.
-pub(crate) fn hull_sums(table: &[u64], p: Particulars) -> Option<[Sums; MOST_ROWS]>
-    requires { Complete table.now p }
-    ensures { TriedSums table.now p result }
-{
-    if ranges::first_outside(table, Record::HalfBreadth).is_some() {
+        particulars,
+    } = hull;
+    if ranges::first_outside(half_breadths, Record::HalfBreadth).is_some() {
         return None;
     }
-    Some(sums_of_rows(table, p))
+    let ranged = RangedHull {
+        half_breadths,
+        particulars,
+    };
+    Some(ranged.sums_of_rows())
 }

@@ -5,11 +5,12 @@ ghost use Rattle.ranges.specs.Fields.{range_of, most};
 ghost use Rattle.simpson.specs.Multipliers.{multiplier};
 ghost use Rattle.hydrostatics.specs.Hull.{half_breadth};
 ghost use Rattle.hydrostatics.specs.Row.{waterline_of};
-ghost use Rattle.hydrostatics.specs.Private.Hull.{Filled, Complete};
+ghost use Rattle.hydrostatics.specs.Private.Hull.{Filled};
 ghost use Rattle.hydrostatics.specs.Private.Sums.{no_sums, TriedSums};
-ghost use Rattle.hydrostatics.specs.Private.Waterplanes.{Given, GatheredOf, Small, sums_from, up_to};
+ghost use Rattle.hydrostatics.specs.Private.Waterplanes.{StationMultipliers, GatheredOf, Small, sums_from, up_to};
 
 use crate::MOST_ROWS;
+use crate::hull::Hull;
 use crate::table::{FIRST_WATERLINE, NO_SUMS, Sums};
 use ranges::{MOST_STATIONS, MOST_WATERLINES, Number, Particulars};
 
@@ -36,34 +37,36 @@ fn station_multipliers(n: usize) -> [u64; MOST_STATIONS]
     u
 }
 
-// The half-breadth at station i, waterline j: station by station from aft, each from the keel up.
-fn half_breadth_at(table: &[u64], p: Particulars, i: usize, j: usize) -> u64
-    requires { (Complete table.now p) × (i ≤ p.n) × (j ≤ p.m) }
-    ensures { result ≡ half_breadth table.now p i j }
-{
-    table[i * (p.m + 1) + j]
-}
-
-// What waterline j contributes, in one sweep that tries each half-breadth as it reads it; nothing where one is out of range.
-// `stations` has the multiplier of each station.
-fn waterline_sums(table: &[u64], p: Particulars, stations: &[u64], j: usize) -> Option<Waterline>
-    requires { (Given table.now p stations.now) × (j ≤ p.m) }
-    ensures { GatheredOf table.now p j result }
-{
-    let mut q: u64 = 0;
-    let mut x: u64 = 0;
-    let mut c: u64 = 0;
-    for (i, u) in stations.iter().enumerate() {
-        let y = half_breadth_at(table, p, i, j);
-        if !y.is_within(ranges::HALF_BREADTH) {
-            return None;
-        }
-        let uy = *u * y;
-        q += uy;
-        x += uy * i as u64;
-        c += uy * (y * y);
+impl Hull<'_> {
+    // The half-breadth at station i, waterline j: station by station from aft, each from the keel up.
+    fn half_breadth_at(&self, i: usize, j: usize) -> u64
+        requires { (i ≤ self.now.particulars.n) × (j ≤ self.now.particulars.m) }
+        ensures { result ≡ half_breadth self.now.half_breadths.now self.now.particulars i j }
+    {
+        self.half_breadths[i * (self.particulars.m + 1) + j]
     }
-    Some(Waterline { q, x, c })
+
+    // What waterline j contributes, in one sweep that tries each half-breadth as it reads it; nothing where one is out of
+    // range. `stations` has the multiplier of each station.
+    fn waterline_sums(&self, stations: &[u64], j: usize) -> Option<Waterline>
+        requires { (StationMultipliers self.now.particulars.n stations.now) × (j ≤ self.now.particulars.m) }
+        ensures { GatheredOf self.now.half_breadths.now self.now.particulars j result }
+    {
+        let mut q: u64 = 0;
+        let mut x: u64 = 0;
+        let mut c: u64 = 0;
+        for (i, u) in stations.iter().enumerate() {
+            let y = self.half_breadth_at(i, j);
+            if !y.is_within(ranges::HALF_BREADTH) {
+                return None;
+            }
+            let uy = *u * y;
+            q += uy;
+            x += uy * i as u64;
+            c += uy * (y * y);
+        }
+        Some(Waterline { q, x, c })
+    }
 }
 
 // The five sums of the row of the last of these waterlines, the first of which is the keel.
@@ -104,16 +107,16 @@ fn sums_of_rows(lines: &[Waterline]) -> [Sums; MOST_ROWS]
     sums
 }
 
-// The five sums of every row of a complete hull, each waterline swept once; none where a half-breadth is out of range.
-pub(crate) fn hull_sums(table: &[u64], p: Particulars) -> Option<[Sums; MOST_ROWS]>
-    requires { Complete table.now p }
-    ensures { TriedSums table.now p result }
+// The five sums of every row of a hull, each waterline swept once; none where a half-breadth is out of range.
+pub(crate) fn hull_sums(hull: Hull) -> Option<[Sums; MOST_ROWS]>
+    ensures { TriedSums hull.entry.half_breadths.now hull.entry.particulars result }
 {
-    let multipliers = station_multipliers(p.n);
-    let stations = &multipliers[..p.n + 1];
+    let Particulars { n, m, .. } = hull.particulars;
+    let multipliers = station_multipliers(n);
+    let stations = &multipliers[..n + 1];
     let mut lines = [NO_WATERLINE; MOST_WATERLINES];
-    for j in 0..p.m + 1 {
-        lines[j] = waterline_sums(table, p, stations, j)?;
+    for j in 0..m + 1 {
+        lines[j] = hull.waterline_sums(stations, j)?;
     }
-    Some(sums_of_rows(&lines[..p.m + 1]))
+    Some(sums_of_rows(&lines[..m + 1]))
 }

@@ -17,9 +17,9 @@ use Rattle.ranges.specs.Fields.{highest_metacentre, most}
 use Rattle.ranges.specs.Private.InRange.{row_range}
 use Rattle.hydrostatics.specs.Usable.{row_in, spacing}
 use Rattle.hydrostatics.specs.declared.Row.{Row}
-use Rattle.loading.specs.Private.Afloat.{RowsUsable, RowBelow, OnLine, Floats, Within}
+use Rattle.loading.specs.Private.Afloat.{count_of, RowsUsable, RowBelow, OnLine, Floats, Within}
 use Rattle.loading.specs.Paper.{rule_of}
-use Rattle.loading.specs.Table.{Place, on, between, table_of, last_row, place_of, draft_at, line}
+use Rattle.loading.specs.Table.{Place, on, between, hull, last_row, place_of, draft_at, line}
 use Rattle.loading.specs.declared.Reading.{Reading}
 use Rattle.loading.specs.declared.Reading.TheVariants.{Lesser, StraightLine}
 use Rattle.loading.proofs.Readings.{own_weight}
@@ -50,10 +50,10 @@ pub line_most : {a b lo hi w : ℕ} → OnLine a b lo hi w → line a b lo hi w 
 line_most {a} {b} {lo} {hi} {w} l = line_below lo hi w l.low l.high a b highest_metacentre l.first l.second
 
 -- a weight within a usable table, and the row below it
-pub record Afloat (rows : List ℕ) (count W r : ℕ) (row : Row) : Type 0 where
-  pub usable : RowsUsable rows count
-  pub within : Within (table_of rows count) W
-  pub below : RowBelow rows count W r
+pub record Afloat (rows : List ℕ) (W r : ℕ) (row : Row) : Type 0 where
+  pub usable : RowsUsable rows (count_of rows)
+  pub within : Within (hull rows) W
+  pub below : RowBelow rows W r
   pub here : row ≡ row_in rows r
 
 -- and neither is KM, however it is read
@@ -61,8 +61,8 @@ km_most : (reading : Reading) (r s : Row) {W : ℕ} → OnLine r.km s.km r.displ
 km_most Lesser r s l = omega (arith, l.first)
 km_most StraightLine r s l = line_most l
 
-module _ {rows : List ℕ} {count W r : ℕ} {row : Row} (a : Afloat rows count W r row) where
-  at_place : (reading : Reading) (p : Place) → place_of (table_of rows count) W ≡ p → (d k : ℕ) → d ≡ draft_at (spacing rows) p W → k ≡ (rule_of reading).given p W → k ≤ highest_metacentre → Floats reading rows count W (record { draft = d; km = k })
+module _ {rows : List ℕ} {W r : ℕ} {row : Row} (a : Afloat rows W r row) where
+  at_place : (reading : Reading) (p : Place) → place_of (hull rows) W ≡ p → (d k : ℕ) → d ≡ draft_at (spacing rows) p W → k ≡ (rule_of reading).given p W → k ≤ highest_metacentre → Floats reading rows W (record { draft = d; km = k })
   at_place reading p e d k f g h = record {
     draft = f ∙ ap (λ q. draft_at (spacing rows) q W) (sym e);
     km = g ∙ ap (λ q. (rule_of reading).given q W) (sym e);
@@ -70,34 +70,34 @@ module _ {rows : List ℕ} {count W r : ℕ} {row : Row} (a : Afloat rows count 
   }
 
   row_usable : UsableRow rows r
-  row_usable = usable_at rows count a.usable r a.below.there
+  row_usable = usable_at rows (count_of rows) a.usable r a.below.there
 
-  pub floats_on : (reading : Reading) → W ≡ row.displacement → Floats reading rows count W (record { draft = row.draft; km = row.km })
+  pub floats_on : (reading : Reading) → W ≡ row.displacement → Floats reading rows W (record { draft = row.draft; km = row.km })
   floats_on reading e =
       let own : W ≡ (row_in rows r).displacement = e ∙ ap (λ s. s.displacement) a.here in
       rw a.here
-      (at_place reading (on (row_in rows r)) (a.below.falls ∙ place_on rows count r W a.below.next_above a.below.there own) _ _
+      (at_place reading (on (row_in rows r)) (a.below.falls ∙ place_on rows (count_of rows) r W a.below.next_above a.below.there own) _ _
       refl (sym (own_weight reading (row_in rows r) W)) row_usable.ranged.km.1)
 
   module _ (n : W ≡ row.displacement → ⊥) where
     not_own : W ≡ (row_in rows r).displacement → ⊥
     not_own e = n (e ∙ ap (λ s. s.displacement) (sym a.here))
 
-    pub next_there : r + 1 < count
-    next_there = by_order (dec_lt (r + 1) count)
+    pub next_there : r + 1 < count_of rows
+    next_there = by_order (dec_lt (r + 1) (count_of rows))
       where
-        by_order : Dec (r + 1 < count) → r + 1 < count
+        by_order : Dec (r + 1 < count_of rows) → r + 1 < count_of rows
         by_order (yes h) = h
         by_order (no h) =
             let b = a.below in
-            let e : count - 1 ≡ r = omega arith in
-            let last : last_row (table_of rows count) ≡ row_in rows r = last_row_of_table rows count (omega arith) ∙ ap (row_in rows) e in
+            let e : count_of rows - 1 ≡ r = omega arith in
+            let last : last_row (hull rows) ≡ row_in rows r = last_row_of_table rows (count_of rows) (omega arith) ∙ ap (row_in rows) e in
             absurd (not_own (omega (arith, b.not_above, a.within.most, ap (λ s. s.displacement) last)))
 
     -- the next row
     module _ {next : Row} (above : next ≡ row_in rows (r + 1)) where
       next_usable : UsableRow rows (r + 1)
-      next_usable = usable_at rows count a.usable (r + 1) next_there
+      next_usable = usable_at rows (count_of rows) a.usable (r + 1) next_there
 
       pub km_line : OnLine row.km next.km row.displacement next.displacement W
       km_line =
@@ -121,10 +121,10 @@ module _ {rows : List ℕ} {count W r : ℕ} {row : Row} (a : Afloat rows count 
           pub draft_fits : row.draft + more ≤ most (row_range 0) + highest_metacentre
           draft_fits = rw e (omega (arith, line_most draft_line, row_usable.ranged.draft.1, ap (λ s. s.draft) a.here))
 
-          pub floats_between : (reading : Reading) {km : ℕ} → km ≡ (rule_of reading).given (between row next) W → Floats reading rows count W (record { draft = row.draft + more; km = km })
+          pub floats_between : (reading : Reading) {km : ℕ} → km ≡ (rule_of reading).given (between row next) W → Floats reading rows W (record { draft = row.draft + more; km = km })
           floats_between reading f =
               let most = km_most reading row next km_line in
               rw (e, f, half)
               (at_place reading (between row next)
-              (a.below.falls ∙ place_between rows count r W next_there (a.below.next_above next_there) not_own ∙ sym (rw (a.here, above)))
+              (a.below.falls ∙ place_between rows (count_of rows) r W next_there (a.below.next_above next_there) not_own ∙ sym (rw (a.here, above)))
               _ _ (simp (zero-mul, zero-add)) refl most)

@@ -1,5 +1,8 @@
 -- The totals of a table of items, by the tests of its call.
---     is_wrong_size, bad_item         its two refusals
+--     ranges_bad, ranges_good         the ranges of its numbers, tried;
+--     ranges_kept                     where they are kept
+--     is_wrong_size, totals_refused, totals_made      the size, and then the ranges
+--     bad_item                         a number out of range
 --     items_few                        a table of the right size has no more numbers than there is room for
 --     items_fitting                    a table of the right size with all numbers in range
 --     items_most                   the most that the items of such a table weigh, and their vertical moment
@@ -9,28 +12,30 @@
 --     paper_totals_injective       two answers with the same number and values are the same: the promise determines the answer
 -- Assumes nothing.
 use mathlib.Core.Path.{◌≡◌, refl, sym, ap, ◌∙◌}
-use mathlib.Core.Bool.{true, false}
+use mathlib.Core.Bool.{Bool, true, false}
 use mathlib.Core.List.{List, [], ◌∷◌}
 use Prim.Native.Nat.{ℕ, ◌+◌, ◌*◌, ◌<◌, ◌≤◌}
 use native.Mathlib.Nat.{add-zero, mul-le-mul_left}
 use native.Mathlib.Omega.{arith}
-use borrow.Author.Tests.{lt-ltb, le-ltb}
+use borrow.Author.Tests.{lt-ltb, le-ltb, ltb-false}
 use lib.IntN.{ℤ, nat_abs}
 use lib.ListN.{length}
+use Rattle.arithmetic.specs.Choice.{when◌then◌else◌}
+use lib.Dec.{ltb}
 use Rattle.arithmetic.proofs.Choice.{chosen}
 use Rattle.ranges.specs.Fields.{most, range_of, item, z_range}
-use Rattle.ranges.specs.Outcome.{answered, refused, Numbered}
+use Rattle.ranges.specs.Outcome.{Outcome, answered, refused, and_then, Numbered}
 use Rattle.ranges.specs.Outside.{first_outside}
 use Rattle.ranges.specs.Refusals.{out_of_range, wrong_size, place_of_items, item_table}
 use Rattle.ranges.specs.Sizes.{whole_records, item_width, most_items}
 use Rattle.ranges.proofs.Facts.{records_are}
 use Rattle.ranges.proofs.Numbered.{numbered}
-use Rattle.ranges.proofs.Outcomes.{answer_known}
+use Rattle.ranges.proofs.Outcomes.{answer_known, not_refused}
 use Rattle.ranges.proofs.Outside.{outside_le}
 use Rattle.ranges.proofs.Records.{parts_inside}
 use Rattle.loading.specs.Items.{totals_of_items, item_totals}
 use Rattle.loading.specs.Load.{weight, vertical_moment_of}
-use Rattle.loading.specs.Private.Aboard.{nothing, ◌with◌, of_item, of_tank, altogether, most_in_items, ItemsFit}
+use Rattle.loading.specs.Private.Aboard.{nothing, ◌with◌, of_item, of_tank, altogether, most_in_items, items_tried, ItemsFit}
 use Rattle.loading.specs.Private.Steady.{totals_with}
 use Rattle.ranges.specs.Reasons.{paper}
 use Rattle.std.specs.Prelude.{Result}
@@ -70,10 +75,47 @@ items_most items fits =
     let each = each_most items (omega (arith, fits.is_in_range)) in (omega (arith, each.0, fits.few), omega (arith, each.0, each.1, fits.few))
 
 -- ---- the tests
+-- a test that refuses, and then a step
+pub refused_then : {A B : Type 0} (t : Bool) (number place : ℕ) (o : Outcome A) (next : A → Outcome B) → and_then (when t then refused number place else o) next ≡ (when t then refused number place else and_then o next)
+unfolding and_then when◌then◌else◌
+refused_then true number place o next = refl
+refused_then false number place o next = refl
+
 module _ (items : List ℤ) where
+  pub ranges_bad : first_outside item items < length items → items_tried items ≡ refused out_of_range (place_of_items + first_outside item items)
+  unfolding items_tried
+  ranges_bad h = simp (lt-ltb _ _ h, chosen)
+
+  pub ranges_good : length items ≤ first_outside item items → items_tried items ≡ answered tt
+  unfolding items_tried
+  ranges_good h = simp (le-ltb _ _ h, chosen)
+
+  pub ranges_kept : answered tt ≡ items_tried items → first_outside item items ≡ length items
+  unfolding items_tried
+  ranges_kept e =
+      let t = not_refused out_of_range (place_of_items + first_outside item items) (sym e) in
+      omega (arith, ltb-false (first_outside item items) (length items) t.0, outside_le item items)
+
   pub is_wrong_size : whole_records item_width most_items (length items) ≡ false → item_totals items ≡ refused wrong_size item_table
   unfolding item_totals
   is_wrong_size w = simp (w, chosen)
+
+  module _ (w : whole_records item_width most_items (length items) ≡ true) where
+    -- the ranges, and then the totals
+    totals_by : item_totals items ≡ and_then (items_tried items) (λ fine. answered (totals_of_items items))
+    unfolding item_totals items_tried and_then
+    totals_by =
+        let outside = first_outside item items in
+        let next : Unit {0} → Outcome Totals = λ fine. answered (totals_of_items items) in
+        simp (w, chosen) (sym (refused_then (ltb outside (length items)) out_of_range (place_of_items + outside) (answered tt) next))
+
+    pub totals_refused : {number place : ℕ} → refused number place ≡ items_tried items → item_totals items ≡ refused number place
+    unfolding and_then
+    totals_refused e = totals_by ∙ rw (← e)
+
+    pub totals_made : answered tt ≡ items_tried items → item_totals items ≡ answered (totals_of_items items)
+    unfolding and_then
+    totals_made e = totals_by ∙ rw (← e)
 
   module _ (w : whole_records item_width most_items (length items) ≡ true) {outside : ℕ} (o : outside ≡ first_outside item items) where
     pub bad_item : outside < length items → item_totals items ≡ refused out_of_range (place_of_items + outside)
@@ -81,9 +123,6 @@ module _ (items : List ℤ) where
     bad_item h = rw (← o) (simp (w, lt-ltb outside (length items) h, chosen))
 
     module _ (h : length items ≤ outside) where
-      pub fit : ItemsFit items
-      fit = items_fitting items w (omega (arith, o, outside_le item items))
-
       pub totals_answered : item_totals items ≡ answered (totals_of_items items)
       unfolding item_totals
       totals_answered = rw (← o) (simp (w, le-ltb outside (length items) h, chosen))

@@ -3,77 +3,65 @@
 --     tried_again      all that the condition tries
 -- Assumes nothing.
 use mathlib.Core.Path.{◌≡◌, sym, ap, subst, ◌∙◌}
-use mathlib.Core.Bool.{true}
-use mathlib.Core.List.{List, ◌∷◌}
-use Prim.Native.Nat.{ℕ, zero, suc, ◌+◌, ◌*◌, ◌-◌, ◌%◌, ◌/◌, ◌≤◌, ◌<◌}
+use mathlib.Core.List.{List, ◌∷◌, ◌++◌}
+use Prim.Native.Nat.{ℕ, zero, suc, ◌+◌, ◌*◌, ◌%◌, ◌/◌, ◌≤◌}
 use native.Mathlib.Omega.{arith}
-use borrow.Author.Tests.{ltb-false}
-use lib.IntN.{ℤ, pos}
-use lib.ListN.{length, get_or, drop}
-use lib.Seq.{get_or-take, get_or-drop}
-use Rattle.ranges.specs.Fields.{◌to◌, within, tank}
+use lib.IntN.{ℤ}
+use lib.ListN.{length, take, drop, length-take, length-drop, drop_of_length-le, take-append-drop}
+use Rattle.ranges.specs.Fields.{tank}
 use Rattle.ranges.specs.Outcome.{answered}
 use Rattle.ranges.specs.Outside.{first_outside}
-use Rattle.ranges.specs.Refusals.{out_of_range, contents_above_capacity, place_of_tanks}
 use Rattle.ranges.specs.Sizes.{tank_width, most_tanks}
-use Rattle.ranges.proofs.Facts.{all_within, all_inside, records_are}
-use Rattle.ranges.proofs.Outcomes.{not_refused}
+use Rattle.ranges.proofs.Facts.{records_are}
+use Rattle.ranges.proofs.Records.{parts_inside}
 use Rattle.loading.specs.Condition.{tanks_from}
 use Rattle.loading.specs.Demand.{LoweredTables}
 use Rattle.loading.specs.Load.{LoweredTank}
-use Rattle.loading.specs.Private.Aboard.{size_at, tank_at}
+use Rattle.loading.specs.Private.Aboard.{tank_at}
 use Rattle.loading.specs.Private.Afloat.{Within}
 use Rattle.loading.specs.Records.{tanks_of, load_of}
 use Rattle.loading.specs.Table.{hull}
 use Rattle.loading.specs.Total.{Each, more}
 use Rattle.loading.proofs.Answers.{Tried}
 use Rattle.loading.proofs.Lowering.{lower_weight}
-use Rattle.loading.proofs.Stowage.{eight_at, part_eight, tank_passed, trial_end}
-use Rattle.loading.proofs.Walks.{drop_eight, tanks_next}
+use Rattle.loading.proofs.Stowage.{tank_passed, tank_was_passed, trial_end}
+use Rattle.loading.proofs.Walks.{tanks_next}
 
--- where no number of a table is outside, none of a tank's eight is
-eight_inside : (table : List ℤ) (i : ℕ) → i % tank_width ≡ 0 → i + tank_width ≤ length table → length table ≤ first_outside tank table → tank_width ≤ first_outside tank (eight_at table i)
-eight_inside table i start there inside =
-    let eight = eight_at table i in
-    let at : (k : ℕ) → k < tank_width → within (get_or tank (k % tank_width) (1 to 0)) (get_or eight k (pos 0)) ≡ true = λ k l.
-    let field : (i + k) % tank_width ≡ k % tank_width = omega arith in
-    let number : get_or table (i + k) (pos 0) ≡ get_or eight k (pos 0) =
-    sym (get_or-drop i table k (pos 0)) ∙ sym (get_or-take (i + tank_width - i) (drop i table) k (pos 0) (omega arith)) ∙ ap (λ t. get_or t k (pos 0)) (part_eight table i there) in
-    rw (field, number) at (all_within tank table inside (i + k) (omega arith)) in
-    omega (arith, all_inside tank eight at)
+-- a tank that was passed passes again when it is lowered
+again : (lower table lower-rest rest : List ℤ) (place : ℕ) {last : ℕ} (eight' : length lower ≡ tank_width) (eight : length table ≡ tank_width)
+    → length lower ≤ first_outside tank lower
+    → Each LoweredTank (tank_at lower 0 ∷ tanks_of lower-rest) (tank_at table 0 ∷ tanks_of rest)
+    → tanks_from place (table ++ rest) ≡ answered last
+    → (Each LoweredTank (tanks_of lower-rest) (tanks_of rest) → tanks_from (place + tank_width) rest ≡ answered last → (end : ℕ) × (tanks_from (place + tank_width) lower-rest ≡ answered end))
+    → (end : ℕ) × (tanks_from place (lower ++ lower-rest) ≡ answered end)
+again lower table lower-rest rest place eight' eight inside (more h others) e on =
+    let was = tank_was_passed table eight place rest e in
+    let further = on others was.1 in
+    (further.0, tank_passed lower eight' place lower-rest inside (omega (arith, h.contents, h.capacity, was.0)) ∙ further.1)
 
--- the tank at a place passed, and so the tanks after it
-passed_here : (table : List ℤ) (i : ℕ) {last : ℕ} → i + tank_width ≤ length table → tanks_from i (drop i table) ≡ answered last → (size_at table i ≤ size_at table (i + 1)) × (tanks_from (i + tank_width) (drop (i + tank_width) table) ≡ answered last)
-unfolding tanks_from
-passed_here table i there e =
-    let ranged = not_refused out_of_range (place_of_tanks + (i + first_outside tank (eight_at table i))) (rw (drop_eight table (pos 0) i there) at e) in
-    let held = not_refused contents_above_capacity (place_of_tanks + i) ranged.1 in
-    (ltb-false _ _ held.0, held.1)
+-- so many tanks are left
+tanks_left : (left place : ℕ) (lower table : List ℤ) {last : ℕ}
+    → length lower ≡ length table
+    → length table ≡ left * tank_width
+    → length lower ≤ first_outside tank lower
+    → Each LoweredTank (tanks_of lower) (tanks_of table)
+    → tanks_from place table ≡ answered last
+    → (end : ℕ) × (tanks_from place lower ≡ answered end)
+tanks_left zero place lower table as_long size inside each e =
+    let none : length lower ≤ 0 = omega arith in (place, ap (tanks_from place) (drop_of_length-le lower none) ∙ trial_end place)
+tanks_left (suc left) place lower table as_long size inside each e =
+    let split' = sym (take-append-drop tank_width lower) in
+    let split = sym (take-append-drop tank_width table) in
+    let eight' : length (take tank_width lower) ≡ tank_width = simp length-take (omega arith) in
+    let eight : length (take tank_width table) ≡ tank_width = simp length-take (omega arith) in
+    let parts = parts_inside tank (take tank_width lower) (drop tank_width lower) eight' (rw split' at inside) in
+    rw split' (again (take tank_width lower) (take tank_width table) (drop tank_width lower) (drop tank_width table) place eight' eight (omega (arith, parts.0))
+    (rw (split', split, tanks_next (take tank_width lower) (drop tank_width lower) eight', tanks_next (take tank_width table) (drop tank_width table) eight) at each)
+    (rw split at e)
+    (λ others was. tanks_left left (place + tank_width) (drop tank_width lower) (drop tank_width table) (simp length-drop (omega arith)) (simp length-drop (omega arith)) (omega (arith, parts.1)) others was))
 
-module _ (lower table : List ℤ) (as_long : length lower ≡ length table) (inside : length lower ≤ first_outside tank lower) where
-  -- so many tanks are left from place i on
-  tanks_from_front : (left i : ℕ) {last : ℕ}
-      → i % tank_width ≡ 0
-      → length table ≡ i + left * tank_width
-      → Each LoweredTank (tanks_of (drop i lower)) (tanks_of (drop i table))
-      → tanks_from i (drop i table) ≡ answered last
-      → (end : ℕ) × (tanks_from i (drop i lower) ≡ answered end)
-  tanks_from_front zero i start size each e = (i, trial_end lower i (omega arith))
-  tanks_from_front (suc left) i start size each e =
-      let here = passed_here table i (omega arith) e in
-      step (rw (tanks_next lower i (omega arith), tanks_next table i (omega arith)) at each) here.0
-      (λ rest. tanks_from_front left (i + tank_width) (omega arith) (omega arith) rest here.1)
-    where
-      step : Each LoweredTank (tank_at lower i ∷ tanks_of (drop (i + tank_width) lower)) (tank_at table i ∷ tanks_of (drop (i + tank_width) table))
-          → size_at table i ≤ size_at table (i + 1)
-          → (Each LoweredTank (tanks_of (drop (i + tank_width) lower)) (tanks_of (drop (i + tank_width) table)) → (end : ℕ) × (tanks_from (i + tank_width) (drop (i + tank_width) lower) ≡ answered end))
-          → (end : ℕ) × (tanks_from i (drop i lower) ≡ answered end)
-      step (more h rest) holds on =
-          let further = on rest in
-          (further.0, tank_passed lower i (omega arith) (eight_inside lower i start (omega arith) inside) (omega (arith, h.contents, h.capacity)) ∙ further.1)
-
-  pub tanks_pass : {last : ℕ} → length table % tank_width ≡ 0 → Each LoweredTank (tanks_of lower) (tanks_of table) → tanks_from 0 table ≡ answered last → (end : ℕ) × (tanks_from 0 lower ≡ answered end)
-  tanks_pass whole each e = tanks_from_front (length table / tank_width) 0 (omega arith) (omega arith) each e
+pub tanks_pass : (lower table : List ℤ) → length lower ≡ length table → length lower ≤ first_outside tank lower → {last : ℕ} → length table % tank_width ≡ 0 → Each LoweredTank (tanks_of lower) (tanks_of table) → tanks_from 0 table ≡ answered last → (end : ℕ) × (tanks_from 0 lower ≡ answered end)
+tanks_pass lower table as_long inside whole each e = tanks_left (length table / tank_width) 0 lower table as_long (omega arith) inside each e
 
 pub tried_again : {items' tanks' items tanks : List ℤ} {rows : List ℕ} → LoweredTables items' tanks' items tanks → Tried items tanks rows → Tried items' tanks' rows
 tried_again {items'} {tanks'} {items} {tanks} {rows} low t =

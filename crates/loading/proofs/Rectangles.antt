@@ -1,10 +1,11 @@
 -- The free surface of a rectangular tank.
+--     surface_none, surface_some                          none where the tank is not slack, and rounded up where it is
 --     empty_parts, surface_empty, surface_pressed_up      none where the tank is empty or pressed up
 --     surface_slack                                       rounded up where it is slack
 --     parts_most, surface_most                            how large it can be
 -- Assumes nothing.
 use mathlib.Core.Path.{◌≡◌, sym, ap, ◌∙◌}
-use mathlib.Core.Bool.{and-false}
+use mathlib.Core.Bool.{true, false, and-false}
 use Prim.Native.Nat.{ℕ, ◌*◌, ◌^◌, ◌≤◌, ◌<◌}
 use native.Mathlib.Nat.{mul-le-mul, pow-le-pow_left}
 use native.Mathlib.Omega.{arith}
@@ -28,6 +29,14 @@ module _ (t : Tank) where
   pressed_up_parts : pressed_up * t.capacity ≤ hundredths * t.contents → rectangle_parts t ≡ 0
   unfolding rectangle_parts slack
   pressed_up_parts h = simp (le-ltb (hundredths * t.contents) (pressed_up * t.capacity) h, and-false, chosen)
+
+  pub surface_none : slack t ≡ false → 0 ≡ surface_of rectangle t
+  unfolding rectangle_parts
+  surface_none e = simp (e, chosen) (sym (up_zero (up_of 0 rectangle.unit (omega arith))))
+
+  pub surface_some : slack t ≡ true → rounded_up (t.length * t.breadth ^ 3 * t.density) rectangle.unit ≡ surface_of rectangle t
+  unfolding rectangle_parts
+  surface_some e = simp (e, chosen)
 
   slack_parts : 0 < t.contents → hundredths * t.contents < pressed_up * t.capacity → rectangle_parts t ≡ t.length * t.breadth ^ 3 * t.density
   unfolding rectangle_parts slack

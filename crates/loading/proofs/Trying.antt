@@ -1,64 +1,40 @@
--- The tests of a row, one by one, and of a table row by row.
---     spaced_odd, -outside, -by                    the distance between waterlines
---     rises_first, rises_by                        the displacement
---     unusable_range, -spacing, -rise, usable_by   the row
+-- The tests of a row, and of a table row by row.
+--     unusable_range, usable_is, heights_most      the row
 --     rows_none, rows_on, rows_bad                 the table
+--     lent_whole, lent_wrong, lent_bad, lent_good  the lent table, as it is tried,
+--     lent_usable, lent_answered                   and what its being answered tells
 -- Assumes nothing.
-use mathlib.Core.Path.{◌≡◌, refl, sym, ap, ap₂, ◌∙◌}
-use mathlib.Core.Bool.{Bool, true, false, ◌||◌}
+use mathlib.Core.Path.{◌≡◌, refl, sym, ap, ◌∙◌}
+use mathlib.Core.Bool.{true, false, ◌&&◌, ◌||◌}
 use mathlib.Core.List.{List, map}
-use Prim.Native.Nat.{ℕ, zero, suc, ◌+◌, ◌*◌, ◌-◌, ◌/◌, ◌≤◌, ◌<◌}
+use Prim.Native.Nat.{ℕ, zero, suc, ◌+◌, ◌*◌, ◌≤◌, ◌<◌}
 use native.Mathlib.Numerals.{add-one}
 use native.Mathlib.Decide.{dec_lt}
 use native.Mathlib.Omega.{arith}
-use borrow.Author.Tests.{eq-eqb, ne_eqb, ltb-true, ltb-false}
-use lib.Dec.{ltb, eqb}
+use borrow.Author.Tests.{eq-eqb, ne_eqb, ltb-true, ltb-false, leb-true}
+use lib.Dec.{leb, ltb, eqb}
 use lib.IntN.{pos}
 use lib.ListN.{length}
 use Rattle.std.specs.Prelude.{Option, is_some}
 use Rattle.arithmetic.proofs.Choice.{chosen}
-use Rattle.arithmetic.proofs.Tests.{by_test}
-use Rattle.hydrostatics.specs.Row.{numbers_of, waterline_of}
+use Rattle.arithmetic.proofs.Tests.{by_test, both, never}
+use Rattle.hydrostatics.specs.Row.{numbers_of}
 use Rattle.hydrostatics.specs.Usable.{row_in, in_range, spaced, rises, metacentre_fits, usable_row, usable_up_to}
 use Rattle.hydrostatics.specs.declared.Row.{Row}
-use Rattle.ranges.specs.Fields.{within, most, range_of, row_ranges}
+use Rattle.ranges.specs.Fields.{most, row_ranges}
 use Rattle.ranges.specs.Private.InRange.{row_range}
-use Rattle.ranges.specs.Outcome.{answered, refused, and_then}
+use Rattle.ranges.specs.Outcome.{Outcome, answered, refused, and_then}
 use Rattle.ranges.specs.Outside.{first_outside}
 use Rattle.ranges.specs.Private.Bounds.{place_in}
 use Rattle.ranges.proofs.Outside.{outside_le}
-use Rattle.ranges.specs.Refusals.{rows_not_usable}
-use Rattle.ranges.specs.Sizes.{row_width}
+use Rattle.ranges.specs.Refusals.{rows_not_usable, wrong_size, row_table}
+use Rattle.ranges.specs.Sizes.{whole_records, row_width, least_rows, most_rows}
 use Rattle.hydrostatics.proofs.InRows.{row_in_range}
+use Rattle.ranges.proofs.Facts.{records_are}
+use Rattle.loading.specs.Condition.{rows_allowed}
+use Rattle.loading.specs.Private.Afloat.{count_of, rows_tried, is_answered, RowsWhole, RowsUsable}
+use Rattle.loading.proofs.Usability.{usable_count}
 use Rattle.hydrostatics.proofs.Reading.{seven_are}
-
--- ---- the distance between waterlines, where `first` is row 0's draft
-module _ (rows : List ℕ) (r : ℕ) {first : ℕ} (e : first ≡ (row_in rows 0).draft) where
-  pub spaced_odd : (2 * (first / 2) ≡ first → ⊥) → spaced rows r ≡ false
-  unfolding spaced
-  spaced_odd n = rw (← e, ne_eqb (2 * (first / 2)) first n)
-
-  module _ (even : 2 * (first / 2) ≡ first) where
-    pub spaced_outside : within (range_of 3) (pos (first / 2)) ≡ false → spaced rows r ≡ false
-    unfolding spaced
-    spaced_outside w = rw (← e, eq-eqb (2 * (first / 2)) first even, w)
-
-    pub spaced_by : {draft : ℕ} → draft ≡ (row_in rows r).draft → within (range_of 3) (pos (first / 2)) ≡ true → spaced rows r ≡ eqb draft (waterline_of r * (first / 2))
-    unfolding spaced
-    spaced_by d w = rw (← e, ← d, eq-eqb (2 * (first / 2)) first even, w)
-
--- ---- the displacement
-module _ (rows : List ℕ) where
-  pub rises_first : (r : ℕ) → r ≡ 0 → rises rows r ≡ true
-  unfolding rises
-  rises_first r e = rw e
-
-  pub rises_by : (r : ℕ) {before here : ℕ} → (r ≡ 0 → ⊥) → before ≡ (row_in rows (r - 1)).displacement → here ≡ (row_in rows r).displacement → rises rows r ≡ ltb before here
-  unfolding rises
-  rises_by zero n e f = absurd (n refl)
-  rises_by (suc r) n e f =
-      let m : suc r - 1 ≡ r = omega arith in
-      sym (ap₂ ltb (e ∙ ap (λ k. (row_in rows k).displacement) m) f)
 
 -- ---- the row
 module _ (rows : List ℕ) (r : ℕ) (whole : row_width * r + row_width ≤ length rows) {row : Row} (here : row ≡ row_in rows r) where
@@ -89,17 +65,9 @@ module _ (rows : List ℕ) (r : ℕ) (whole : row_width * r + row_width ≤ leng
       ranged : in_range rows r ≡ true
       ranged = range_is ∙ eq-eqb outside row_width all_inside
 
-      pub unusable_spacing : spaced rows r ≡ false → usable_row rows r ≡ false
-      unfolding usable_row
-      unusable_spacing s = rw (ranged, s)
-
-      pub unusable_rise : spaced rows r ≡ true → rises rows r ≡ false → usable_row rows r ≡ false
-      unfolding usable_row
-      unusable_rise s t = rw (ranged, s, t)
-
-      pub usable_by : {b : Bool} → spaced rows r ≡ true → rises rows r ≡ true → b ≡ (eqb (row.kb + row.bm) row.km || eqb (row.kb + row.bm + 1) row.km) → b ≡ usable_row rows r
+      pub usable_is : usable_row rows r ≡ (spaced rows r && rises rows r && (eqb (row.kb + row.bm) row.km || eqb (row.kb + row.bm + 1) row.km))
       unfolding usable_row metacentre_fits
-      usable_by s t e = e ∙ rw (ranged, s, t, here)
+      usable_is = rw (ranged, here)
 
       -- KB and BM are in their ranges, so that their sum fits
       pub heights_most : (row.kb ≤ most (row_range 3)) × (row.bm ≤ most (row_range 4))
@@ -124,3 +92,43 @@ module _ (rows : List ℕ) where
       by_order : (r < count → usable_up_to rows count ≡ refused rows_not_usable r) → Dec (r < count) → usable_up_to rows (suc count) ≡ refused rows_not_usable r
       by_order f (yes m) = rw (f m)
       by_order f (no m) = let k : count ≡ r = omega arith in rw (k, e, u) (simp chosen)
+
+-- ---- the lent table: its size, and then its rows
+module _ (rows : List ℕ) where
+  pub lent_whole : rows_allowed (length rows) ≡ true → RowsWhole rows (count_of rows)
+  lent_whole allowed =
+      let h = both (whole_records row_width most_rows (length rows)) (leb least_rows (count_of rows)) allowed in
+      let whole = records_are row_width most_rows (length rows) h.0 in
+      record { whole = omega arith; least = leb-true least_rows (count_of rows) h.1; most = whole.1 }
+
+  pub lent_wrong : rows_allowed (length rows) ≡ false → rows_tried rows ≡ refused wrong_size row_table
+  unfolding rows_tried
+  lent_wrong e = simp (e, chosen)
+
+  module _ (allowed : rows_allowed (length rows) ≡ true) where
+    pub lent_bad : {bad : ℕ} → refused rows_not_usable bad ≡ usable_up_to rows (count_of rows) → rows_tried rows ≡ refused rows_not_usable bad
+    unfolding rows_tried and_then
+    lent_bad e = simp (allowed, ← e, chosen)
+
+    pub lent_good : answered (count_of rows) ≡ usable_up_to rows (count_of rows) → rows_tried rows ≡ answered rows
+    unfolding rows_tried and_then
+    lent_good e = simp (allowed, ← e, chosen)
+
+  was_answered : {A B : Type 0} (o : Outcome A) (b : B) → is_answered (and_then o (λ good. answered b)) ≡ true → (a : A) × (o ≡ answered a)
+  unfolding and_then
+  was_answered (answered a) b e = (a, refl)
+  was_answered (refused number place) b e = never e
+
+  module _ (usable : is_answered (rows_tried rows) ≡ true) where
+    allowed_is : rows_allowed (length rows) ≡ true
+    unfolding rows_tried
+    allowed_is = by_test (rows_allowed (length rows)) (λ t. t) (λ t. never (simp (t, chosen) at usable))
+
+    pub lent_usable : RowsUsable rows (count_of rows)
+    unfolding rows_tried
+    lent_usable =
+        let up_to = was_answered (usable_up_to rows (count_of rows)) rows (simp (allowed_is, chosen) at usable) in
+        record { size = lent_whole allowed_is; usable = usable_count rows (count_of rows) up_to.0 up_to.1 }
+
+    pub lent_answered : rows_tried rows ≡ answered rows
+    lent_answered = lent_good allowed_is (sym lent_usable.usable)

@@ -1,16 +1,16 @@
--- Tables walked record by record, from place i on.
+-- Tables walked record by record: the numbers of one, and what is left of the table.
 --     drop_four, drop_eight           the next numbers of a table
 --     items_next, tanks_next          the next item, the next tank
 --     Walked                          the walk's invariant,
 --     walk_start, -step, -end         which holds from the first record to the last
 -- Assumes nothing.
 use mathlib.Core.Path.{◌≡◌, refl, sym, ap, ◌∙◌}
-use mathlib.Core.List.{List, [], ◌∷◌}
-use Prim.Native.Nat.{ℕ, suc, ◌+◌, ◌*◌, ◌<◌, ◌≤◌}
-use native.Mathlib.Nat.{add_assoc, add-zero, zero-add, zero-mul, suc-mul, mul-suc}
+use mathlib.Core.List.{List, [], ◌∷◌, ◌++◌}
+use Prim.Native.Nat.{ℕ, ◌+◌, ◌*◌, ◌<◌, ◌≤◌}
+use native.Mathlib.Nat.{add_assoc, add-zero, zero-add, mul-add, mul-one}
 use native.Mathlib.Omega.{arith}
 use lib.IntN.{ℤ, pos}
-use lib.ListN.{length, drop, get_or, drop_of_length-le}
+use lib.ListN.{length, drop, get_or, drop_of_length-le, length-append}
 use Rattle.ranges.specs.Sizes.{item_width, tank_width}
 use Rattle.arithmetic.proofs.Parts.{drop_step}
 use Rattle.loading.specs.Private.Aboard.{nothing, ◌with◌, altogether, item_at, tank_at, Reach}
@@ -32,51 +32,66 @@ module _ {A : Type 0} (s : List A) (d : A) where
         drop_next (i + 3) (i + 4) (omega arith) (omega arith),
       )
 
-  pub drop_eight : (i : ℕ) → i + 8 ≤ length s → drop i s ≡ get_or s i d ∷ get_or s (i + 1) d ∷ get_or s (i + 2) d ∷ get_or s (i + 3) d ∷ get_or s (i + 4) d ∷ get_or s (i + 5) d ∷ get_or s (i + 6) d ∷ get_or s (i + 7) d ∷ drop (i + 8) s
+  drop_eight : (i : ℕ) → i + 8 ≤ length s → drop i s ≡ get_or s i d ∷ get_or s (i + 1) d ∷ get_or s (i + 2) d ∷ get_or s (i + 3) d ∷ get_or s (i + 4) d ∷ get_or s (i + 5) d ∷ get_or s (i + 6) d ∷ get_or s (i + 7) d ∷ drop (i + 8) s
   drop_eight i h = rw (drop_four i (omega arith), drop_four (i + 4) (omega arith)) (simp add_assoc)
 
-module _ (s : List ℤ) (i : ℕ) where
-  pub items_next : i + item_width ≤ length s → items_of (drop i s) ≡ item_at s i ∷ items_of (drop (i + item_width) s)
+  -- no more than these
+  pub four_are : length s ≡ 4 → s ≡ get_or s 0 d ∷ get_or s 1 d ∷ get_or s 2 d ∷ get_or s 3 d ∷ []
+  four_are e =
+      let none : drop 4 s ≡ [] = (let past : length s ≤ 4 = omega arith in drop_of_length-le s past) in
+      drop_four 0 (omega arith) ∙ ap (λ rest. get_or s 0 d ∷ get_or s 1 d ∷ get_or s 2 d ∷ get_or s 3 d ∷ rest) none
+
+  pub eight_are : length s ≡ 8 → s ≡ get_or s 0 d ∷ get_or s 1 d ∷ get_or s 2 d ∷ get_or s 3 d ∷ get_or s 4 d ∷ get_or s 5 d ∷ get_or s 6 d ∷ get_or s 7 d ∷ []
+  eight_are e =
+      let none : drop 8 s ≡ [] = (let past : length s ≤ 8 = omega arith in drop_of_length-le s past) in
+      drop_eight 0 (omega arith)
+      ∙ ap (λ rest. get_or s 0 d ∷ get_or s 1 d ∷ get_or s 2 d ∷ get_or s 3 d ∷ get_or s 4 d ∷ get_or s 5 d ∷ get_or s 6 d ∷ get_or s 7 d ∷ rest) none
+
+module _ (numbers rest : List ℤ) where
+  pub items_next : length numbers ≡ item_width → items_of (numbers ++ rest) ≡ item_at numbers 0 ∷ items_of rest
   unfolding items_of
-  items_next h = ap items_of (drop_four s (pos 0) i h)
+  items_next e = ap (λ n. items_of (n ++ rest)) (four_are numbers (pos 0) e)
 
-  pub tanks_next : i + tank_width ≤ length s → tanks_of (drop i s) ≡ tank_at s i ∷ tanks_of (drop (i + tank_width) s)
+  pub tanks_next : length numbers ≡ tank_width → tanks_of (numbers ++ rest) ≡ tank_at numbers 0 ∷ tanks_of rest
   unfolding tanks_of
-  tanks_next h = ap tanks_of (drop_eight s (pos 0) i h)
+  tanks_next e = ap (λ n. tanks_of (n ++ rest)) (eight_are numbers (pos 0) e)
 
--- The walk at place i of a table of records of a width: what is left of the table, on top of what was walked, comes to what the whole table comes to;
--- and each record walked has added so much at most.
-pub record Walked {A : Type 0} (of : A → Aboard) (recordsOf : List ℤ → List A) (width kg kgmm : ℕ) (table : List ℤ) (all : Aboard) (i : ℕ) : Type 0 where
-  pub walked : ℕ
-  pub at : i ≡ walked * width
-  pub within : i ≤ length table
-  pub same : all with altogether of (recordsOf (drop i table)) ≡ altogether of (recordsOf table)
+-- The walk after so many records of a width, with `rest` left of the table: what is left, on top of what was walked, comes to what the whole table
+-- comes to; and each record walked has added so much at most.
+pub record Walked {A : Type 0} (of : A → Aboard) (recordsOf : List ℤ → List A) (width kg kgmm : ℕ) (table rest : List ℤ) (walked : ℕ) (all : Aboard) : Type 0 where
+  pub at : width * walked + length rest ≡ length table
+  pub same : all with altogether of (recordsOf rest) ≡ altogether of (recordsOf table)
   pub reach : Reach (kg * walked) (kgmm * walked) all
 
+pub nothing_is : (a : Aboard) → (a.weight ≡ 0) × ((a.longitudinal ≡ 0) × ((a.vertical ≡ 0) × ((a.port ≡ 0) × ((a.starboard ≡ 0) × (a.surface ≡ 0))))) → a ≡ nothing
+nothing_is a e =
+    let f = e.1 in
+    let g = f.1 in
+    let h = g.1 in
+    let k = h.1 in
+    λ i. record { weight = e.0 i; longitudinal = f.0 i; vertical = g.0 i; port = h.0 i; starboard = k.0 i; surface = k.1 i }
+
 module _ {A : Type 0} (of : A → Aboard) (recordsOf : List ℤ → List A) (width kg kgmm : ℕ) (table : List ℤ) where
-  pub walk_start : Walked of recordsOf width kg kgmm table nothing 0
-  walk_start = record { walked = 0; at = sym (zero-mul width); within = omega arith; same = simp zero-add; reach = omega arith }
+  pub walk_start : Walked of recordsOf width kg kgmm table table 0 nothing
+  walk_start = record { at = omega arith; same = simp zero-add; reach = omega arith }
 
   -- one record further
   pub walk_step :
-      {all next : Aboard} {i : ℕ} (one : A)
-      → Walked of recordsOf width kg kgmm table all i
-      → i + width ≤ length table
-      → recordsOf (drop i table) ≡ one ∷ recordsOf (drop (i + width) table)
+      {all next : Aboard} {left : List ℤ} {walked : ℕ} (numbers rest : List ℤ) (one : A)
+      → Walked of recordsOf width kg kgmm table left walked all
+      → left ≡ numbers ++ rest
+      → length numbers ≡ width
+      → recordsOf (numbers ++ rest) ≡ one ∷ recordsOf rest
       → Reach kg kgmm (of one)
       → next ≡ all with of one
-      → Walked of recordsOf width kg kgmm table next (i + width)
+      → Walked of recordsOf width kg kgmm table rest (walked + 1) next
   unfolding altogether
-  walk_step {all} {next} {i} one w h e r n = record {
-    walked = suc w.walked;
-    at = ap (λ k. k + width) w.at ∙ sym (suc-mul w.walked width);
-    within = h;
-    same = rw n (sym (simp add_assoc) ∙ rw e at w.same);
-    reach = rw (n, mul-suc kg w.walked, mul-suc kgmm w.walked) (reach_with w.reach r);
+  walk_step {all} {next} {left} {walked} numbers rest one w l e f r n = record {
+    at = omega (arith, w.at, ap length l, length-append numbers rest, mul-add width walked 1);
+    same = rw n (sym (simp add_assoc) ∙ rw (l, f) at w.same);
+    reach = rw (n, mul-add kg walked 1, mul-one kg, mul-add kgmm walked 1, mul-one kgmm) (reach_with w.reach r);
   }
 
-  pub walk_end : {all : Aboard} {i : ℕ} → Walked of recordsOf width kg kgmm table all i → length table ≤ i → recordsOf [] ≡ [] → all ≡ altogether of (recordsOf table)
+  pub walk_end : {all : Aboard} {walked : ℕ} {rest : List ℤ} → Walked of recordsOf width kg kgmm table rest walked all → rest ≡ [] → recordsOf [] ≡ [] → all ≡ altogether of (recordsOf table)
   unfolding altogether
-  walk_end {all} {i} w h e =
-      let past : drop i table ≡ [] = drop_of_length-le table h in
-      sym (simp add-zero) ∙ rw (past, e) at w.same
+  walk_end {all} {walked} {rest} w past e = sym (simp add-zero) ∙ rw (past, e) at w.same

@@ -2,3 +2,4 @@
 pub mod Aboard
 pub mod Afloat
 pub mod Steady
+pub mod Filled

@@ -2,17 +2,18 @@
 #![tactic(auto)]
 
 ghost use Rattle.std.specs.Prelude.{◌≡◌, ◌<◌};
-ghost use Rattle.loading.specs.Private.Aboard.{Bearable};
-ghost use Rattle.loading.specs.Private.Afloat.{RowsUsable};
+ghost use Rattle.loading.specs.Private.Aboard.{Bearable, ItemsFit, TanksWhole};
 ghost use Rattle.loading.specs.Items.{item_totals};
 ghost use Rattle.loading.specs.Paper.{default_reading};
 ghost use Rattle.loading.specs.Promise.{MakesCondition};
-ghost use Rattle.loading.specs.Private.Steady.{Steady, Loadable, condition_with, totals_with, floats_with, after_items};
-ghost use Rattle.loading.specs.Table.{table_of};
+ghost use Rattle.loading.specs.Private.Steady.{Steady, condition_with, totals_with, floats_with, after_items};
+ghost use Rattle.loading.specs.Table.{hull};
 ghost use Rattle.loading.specs.Condition.{rows_allowed};
 ghost use Rattle.ranges.specs.Reasons.{paper};
 
-use ranges::{Reason, Record, Refusal};
+use floating::Floating;
+use ranges::{Reason, Refusal};
+use rows::Rows;
 
 mod floating;
 mod items;
@@ -69,10 +70,11 @@ impl Condition {
     pub const HEEL_LIMIT: u64 = 1_763;
 
     // The condition of what is aboard, at its draft and the KM there.
-    fn new(all: Aboard, draft: u64, km: u64) -> Condition
-        requires { Steady all km }
-        ensures { result ≡ condition_with all draft km }
+    fn new(all: Aboard, floating: Floating) -> Condition
+        requires { Steady all floating.km }
+        ensures { result ≡ condition_with all floating.draft floating.km }
     {
+        let Floating { draft, km } = floating;
         let weight = all.weight;
         let vertical_moment = all.vertical;
         let free_surface = all.surface;
@@ -104,7 +106,7 @@ pub struct Totals {
 }
 
 // What is aboard, added up: kg, kg·mm; the transverse moment by its two sides.
-#[derive(Clone, Copy, Debug, PartialEq, Eq)]
+#[derive(Clone, Copy, Debug, Default, PartialEq, Eq)]
 struct Aboard {
     weight: u64,
     longitudinal: u64,
@@ -121,42 +123,33 @@ const LEAST_ROWS: usize = 2;
 fn rows_allowed(count: usize) -> bool
     ensures { result ≡ rows_allowed count }
 {
-    if !ranges::whole_records(hydrostatics::ROW_WIDTH, hydrostatics::MOST_ROWS, count) {
-        return false;
-    }
-    LEAST_ROWS <= count / hydrostatics::ROW_WIDTH
+    ranges::whole_records(hydrostatics::ROW_WIDTH, hydrostatics::MOST_ROWS, count)
+        && LEAST_ROWS <= count / hydrostatics::ROW_WIDTH
 }
 
 // What is aboard against the rows: 11 below the first, 12 above the last, and else the condition.
-fn laden(reading: Reading, all: Aboard, rows: &[u64], count: usize) -> Result<Condition, Refusal>
-    requires { Bearable all × RowsUsable rows.now count }
-    ensures { paper result ≡ floats_with reading (table_of rows.now count) all }
+fn laden(reading: Reading, all: Aboard, rows: Rows) -> Result<Condition, Refusal>
+    requires { Bearable all }
+    ensures { paper result ≡ floats_with reading (hull rows.entry.numbers.now) all }
 {
     let weight = all.weight;
-    if weight < rows::displacement_at(rows, 0) {
+    if weight < rows.displacement(0) {
         return Err(Reason::TooLight.at(0));
     }
-    if rows::displacement_at(rows, count - 1) < weight {
+    if rows.displacement(rows.count() - 1) < weight {
         return Err(Reason::TooHeavy.at(0));
     }
-    let floating = floating::afloat(reading, rows, count, weight);
-    Ok(Condition::new(all, floating.draft, floating.km))
+    let floating = floating::afloat(reading, rows, weight);
+    Ok(Condition::new(all, floating))
 }
 
 // What items and tanks bring together, against the rows; each tank is tried before.
-fn loaded(
-    reading: Reading,
-    items: &[i64],
-    tanks: &[i64],
-    rows: &[u64],
-    count: usize,
-) -> Result<Condition, Refusal>
-    requires { Loadable items.now tanks.now rows.now count }
-    ensures { paper result ≡ after_items reading items.now tanks.now (table_of rows.now count) }
+fn loaded(reading: Reading, items: &[i64], tanks: &[i64], rows: Rows) -> Result<Condition, Refusal>
+    requires { ItemsFit items.now × TanksWhole tanks.now }
+    ensures { paper result ≡ after_items reading items.now tanks.now (hull rows.entry.numbers.now) }
 {
     let in_tanks = tanks::tanks_aboard(tanks)?;
-    let all = weights::together(items::items_aboard(items), in_tanks);
-    laden(reading, all, rows, count)
+    laden(reading, items::items_aboard(items) + in_tanks, rows)
 }
 
 // The condition of items and tanks over the rows of a hull, by a reading of KM, or the first refusal in the paper's order.
@@ -174,17 +167,9 @@ pub fn condition_by(
     if !ranges::tanks_fit(tanks.len()) {
         return Err(Reason::WrongSize.at(Refusal::TANK_TABLE));
     }
-    if !rows_allowed(rows.len()) {
-        return Err(Reason::WrongSize.at(Refusal::ROW_TABLE));
-    }
-    let count = rows.len() / hydrostatics::ROW_WIDTH;
-    if let Some(place) = usable::unusable_row(rows, count) {
-        return Err(Reason::RowsNotUsable.at(place));
-    }
-    if let Some(place) = ranges::first_outside(items, Record::Item) {
-        return Err(Reason::OutOfRange.at(Refusal::ITEMS_AT + place));
-    }
-    loaded(reading, items, tanks, rows, count)
+    let rows = Rows::of(rows)?;
+    items::try_ranges(items)?;
+    loaded(reading, items, tanks, rows)
 }
 
 // The same by the default reading.
@@ -214,8 +199,6 @@ pub fn item_totals(items: &[i64]) -> Result<Totals, Refusal>
     if !ranges::items_fit(items.len()) {
         return Err(Reason::WrongSize.at(Refusal::ITEM_TABLE));
     }
-    if let Some(place) = ranges::first_outside(items, Record::Item) {
-        return Err(Reason::OutOfRange.at(Refusal::ITEMS_AT + place));
-    }
+    items::try_ranges(items)?;
     Ok(totals_of(items::items_aboard(items)))
 }

@@ -1,41 +1,83 @@
-// The rows of a lent table.
-ghost use Rattle.std.specs.Prelude.{◌≡◌, ◌≤◌, get_or};
+// The rows of a lent table, and a whole table of them that is usable.
+ghost use Rattle.std.specs.Prelude.{◌≡◌, ◌+◌, ◌*◌, ◌<◌, ◌≤◌, true, length};
 ghost use Rattle.hydrostatics.specs.Usable.{row_in};
-ghost use Rattle.ranges.specs.Sizes.{most_rows};
+ghost use Rattle.loading.specs.Private.Afloat.{is_answered, rows_tried, count_of};
+ghost use Rattle.ranges.specs.Sizes.{row_width};
 
+use crate::{rows_allowed, usable};
 use hydrostatics::{ROW_WIDTH, Row};
+use ranges::{Reason, Refusal};
 
-// The number at place i of a table, or 0 beyond its end.
-pub(crate) fn number_at(rows: &[u64], i: usize) -> u64
-    ensures { result ≡ get_or rows.now i 0 }
-{
-    if i < rows.len() {
-        return rows[i];
-    }
-    0
-}
-
-// The row at number r of a table.
-pub(crate) fn row_at(rows: &[u64], r: usize) -> Row
-    requires { r ≤ most_rows }
-    ensures { result ≡ row_in rows.now r }
+// Row r of a lent table.
+#[tactic(auto, unfolding(hydrostatics::specs::Usable::row_in))]
+pub(crate) fn row_in(numbers: &[u64], r: usize) -> Row
+    requires { row_width * r + row_width ≤ length numbers.now }
+    ensures { result ≡ row_in numbers.now r }
 {
     let at = ROW_WIDTH * r;
-    Row {
-        draft: number_at(rows, at),
-        displacement: number_at(rows, at + 1),
-        lcb: number_at(rows, at + 2),
-        kb: number_at(rows, at + 3),
-        bm: number_at(rows, at + 4),
-        km: number_at(rows, at + 5),
-        area: number_at(rows, at + 6),
-    }
+    Row::from([
+        numbers[at],
+        numbers[at + 1],
+        numbers[at + 2],
+        numbers[at + 3],
+        numbers[at + 4],
+        numbers[at + 5],
+        numbers[at + 6],
+    ])
 }
 
-// The displacement of the row at number r of a table.
-pub(crate) fn displacement_at(rows: &[u64], r: usize) -> u64
-    requires { r ≤ most_rows }
-    ensures { result ≡ (row_in rows.now r).displacement }
+// The displacement of row r of a lent table.
+#[tactic(auto, unfolding(hydrostatics::specs::Usable::row_in))]
+pub(crate) fn displacement_in(numbers: &[u64], r: usize) -> u64
+    requires { row_width * r + row_width ≤ length numbers.now }
+    ensures { result ≡ (row_in numbers.now r).displacement }
 {
-    number_at(rows, ROW_WIDTH * r + 1)
+    numbers[ROW_WIDTH * r + 1]
+}
+
+// 2 to 19 rows of a lent table, all usable.
+#[derive(Clone, Copy)]
+pub(crate) struct Rows<'a> {
+    numbers: &'a [u64],
+    ghost usable: { is_answered (rows_tried numbers.now) ≡ true },
+}
+
+impl<'a> Rows<'a> {
+    ghost use Rattle.std.specs.Prelude.{MatchResult};
+    ghost use Rattle.ranges.specs.Outcome.{refused};
+    ghost use Rattle.ranges.specs.Reasons.{number_of};
+
+    // The rows of a lent table: refused by its size, and then at the first row that is not usable.
+    pub(crate) fn of(numbers: &'a [u64]) -> Result<Rows<'a>, Refusal>
+        ensures { MatchResult result (λ rows. rows.numbers.now ≡ numbers.now) (λ refusal. refused (number_of refusal.reason) refusal.place ≡ rows_tried numbers.now) }
+    {
+        if !rows_allowed(numbers.len()) {
+            return Err(Reason::WrongSize.at(Refusal::ROW_TABLE));
+        }
+        if let Some(place) = usable::first_unusable(numbers) {
+            return Err(Reason::RowsNotUsable.at(place));
+        }
+        Ok(Rows { numbers })
+    }
+
+    // How many there are.
+    pub(crate) fn count(self) -> usize
+        ensures { result ≡ count_of self.entry.numbers.now }
+    {
+        self.numbers.len() / ROW_WIDTH
+    }
+
+    pub(crate) fn row(self, r: usize) -> Row
+        requires { r < count_of self.numbers.now }
+        ensures { result ≡ row_in self.entry.numbers.now r }
+    {
+        row_in(self.numbers, r)
+    }
+
+    pub(crate) fn displacement(self, r: usize) -> u64
+        requires { r < count_of self.numbers.now }
+        ensures { result ≡ (row_in self.entry.numbers.now r).displacement }
+    {
+        displacement_in(self.numbers, r)
+    }
 }

@@ -30,9 +30,10 @@ fn above_zero(v: i64) -> u64
     ensures { result ≡ above_zero v }
 {
     if arithmetic::is_negative(v) {
-        return 0;
+        0
+    } else {
+        arithmetic::magnitude(v)
     }
-    arithmetic::magnitude(v)
 }
 
 // How a weight lies with so much GM under a transverse moment.
@@ -59,13 +60,5 @@ pub(crate) fn heel_of(weight: u64, gm: i64, my: i64) -> Heel
 pub(crate) fn passes(gm: i64, heel: Heel) -> bool
     ensures { result ≡ passes_with gm heel }
 {
-    if above_zero(gm) < Condition::LEAST_GM {
-        return false;
-    }
-    match heel {
-        Heel::Unstable => false,
-        Heel::Upright => true,
-        Heel::Heeled(_) => true,
-        Heel::Beyond => false,
-    }
+    Condition::LEAST_GM <= above_zero(gm) && matches!(heel, Heel::Upright | Heel::Heeled(_))
 }

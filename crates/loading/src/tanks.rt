@@ -1,13 +1,13 @@
 // What the tanks bring aboard, each with its free surface, or the refusal of the first that is not allowed.
-ghost use Rattle.std.specs.Prelude.{◌≡◌, ◌+◌, ◌*◌, ◌^◌, ◌≤◌, length};
+ghost use Rattle.std.specs.Prelude.{◌≡◌, ◌*◌, ◌^◌, ◌≤◌, length};
 ghost use Rattle.arithmetic.specs.Rounding.{rounded_up};
-ghost use Rattle.loading.specs.Private.Aboard.{RoomOf, TankFits, TanksWhole, TanksTried, tank_at, of_tank};
+ghost use Rattle.loading.specs.Private.Aboard.{RoomOf, TanksWhole, TanksTried};
 ghost use Rattle.loading.specs.Paper.{rectangle};
-ghost use Rattle.loading.specs.Rules.{surface_of};
-ghost use Rattle.ranges.specs.Sizes.{tank_width};
+ghost use Rattle.ranges.specs.Fields.{most, range_of};
 
-use crate::{Aboard, weights};
-use ranges::{Reason, Record, Refusal};
+use crate::Aboard;
+use crate::weights::Weight;
+use ranges::{Reason, Record, Refusal, TANK_WIDTH};
 
 // 12,000,000,000 parts of a surface, mm⁴ · kg/m³, are one kg·mm.
 const PARTS: u64 = 12_000_000_000;
@@ -18,6 +18,66 @@ const PRESSED_UP: u64 = 98;
 // The hundredths of a whole.
 const HUNDREDTHS: u64 = 100;
 
+// A tank, its numbers in their ranges: what it contains, its capacity in kg, the mm of its surface, and its liquid's density in kg/m³.
+#[derive(Clone, Copy)]
+struct Tank {
+    contents: Weight,
+    capacity: u64,
+    length: u64,
+    breadth: u64,
+    density: u64,
+    ghost capacity_most: { capacity ≤ most (range_of 11) },
+    ghost room: { RoomOf length breadth density },
+}
+
+impl Tank {
+    ghost use Rattle.loading.specs.Private.Aboard.{TankFits, tank_at, of_tank};
+    ghost use Rattle.loading.specs.Private.Filled.{tank_of};
+    ghost use Rattle.loading.specs.Paper.{slack};
+    ghost use Rattle.loading.specs.Rules.{surface_of};
+    ghost use Rattle.ranges.specs.Sizes.{tank_width};
+
+    // The tank of eight numbers.
+    fn of(numbers: &[i64]) -> Tank
+        requires { (length numbers.now ≡ tank_width) × TankFits (tank_at numbers.now 0) }
+        ensures { tank_of result ≡ tank_at numbers.now 0 }
+    {
+        Tank {
+            contents: Weight::at(numbers[0], &numbers[2..5]),
+            capacity: arithmetic::magnitude(numbers[1]),
+            length: arithmetic::magnitude(numbers[5]),
+            breadth: arithmetic::magnitude(numbers[6]),
+            density: arithmetic::magnitude(numbers[7]),
+        }
+    }
+
+    // Neither empty nor pressed up.
+    #[tactic(auto, unfolding(crate::specs::Paper::slack))]
+    fn is_slack(self) -> bool
+        ensures { result ≡ slack (tank_of self) }
+    {
+        let contents = self.contents.kg;
+        0 < contents && HUNDREDTHS * contents < PRESSED_UP * self.capacity
+    }
+
+    // Its free surface.
+    fn surface(self) -> u64
+        ensures { result ≡ surface_of rectangle (tank_of self) }
+    {
+        if !self.is_slack() {
+            return 0;
+        }
+        slack_surface(self.length, self.breadth, self.density)
+    }
+
+    // What it brings.
+    fn aboard(self) -> Aboard
+        ensures { result ≡ of_tank (tank_of self) }
+    {
+        self.contents.aboard(self.surface())
+    }
+}
+
 // The free surface of a slack tank.
 fn slack_surface(length: u64, breadth: u64, density: u64) -> u64
     requires { RoomOf length breadth density }
@@ -26,50 +86,22 @@ fn slack_surface(length: u64, breadth: u64, density: u64) -> u64
     arithmetic::rounded_up(length * (breadth * breadth * breadth) * density, PARTS)
 }
 
-// The free surface of the tank at place i of a table: 0 where it is empty or pressed up.
-fn surface_in(tanks: &[i64], i: usize) -> u64
-    requires { (i + tank_width ≤ length tanks.now) × TankFits (tank_at tanks.now i) }
-    ensures { result ≡ surface_of rectangle (tank_at tanks.now i) }
-{
-    let contents = arithmetic::size_at(tanks, i);
-    if contents == 0 {
-        return 0;
-    }
-    let capacity = arithmetic::size_at(tanks, i + 1);
-    if PRESSED_UP * capacity <= HUNDREDTHS * contents {
-        return 0;
-    }
-    let length = arithmetic::size_at(tanks, i + 5);
-    let breadth = arithmetic::size_at(tanks, i + 6);
-    let density = arithmetic::size_at(tanks, i + 7);
-    slack_surface(length, breadth, density)
-}
-
-// What the tank at place i of a table brings.
-fn tank_in(tanks: &[i64], i: usize) -> Aboard
-    requires { (i + tank_width ≤ length tanks.now) × TankFits (tank_at tanks.now i) }
-    ensures { result ≡ of_tank (tank_at tanks.now i) }
-{
-    weights::weight_in(tanks, i, i + 2, surface_in(tanks, i))
-}
-
 // All tanks of a table together, or the first refusal: of each tank its eight numbers for 4, then 13.
 pub(crate) fn tanks_aboard(tanks: &[i64]) -> Result<Aboard, Refusal>
     requires { TanksWhole tanks.now }
     ensures { TanksTried tanks.now result }
 {
-    let mut all = weights::none();
-    let mut i = 0;
-    while i < tanks.len() {
-        let end = i + ranges::TANK_WIDTH;
-        if let Some(place) = ranges::first_outside(&tanks[i..end], Record::Tank) {
-            return Err(Reason::OutOfRange.at(Refusal::TANKS_AT + i + place));
+    let mut all = Aboard::default();
+    for (i, numbers) in tanks.chunks_exact(TANK_WIDTH).enumerate() {
+        let at = Refusal::TANKS_AT + TANK_WIDTH * i;
+        if let Some(place) = ranges::first_outside(numbers, Record::Tank) {
+            return Err(Reason::OutOfRange.at(at + place));
         }
-        if arithmetic::size_at(tanks, i + 1) < arithmetic::size_at(tanks, i) {
-            return Err(Reason::ContentsAboveCapacity.at(Refusal::TANKS_AT + i));
+        let tank = Tank::of(numbers);
+        if tank.capacity < tank.contents.kg {
+            return Err(Reason::ContentsAboveCapacity.at(at));
         }
-        all = weights::together(all, tank_in(tanks, i));
-        i = end;
+        all = all + tank.aboard();
     }
     Ok(all)
 }

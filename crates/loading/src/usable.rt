@@ -1,39 +1,35 @@
-// Whether a table of rows is usable, row by row.
-ghost use Rattle.std.specs.Prelude.{◌≡◌, ◌||◌, ◌+◌, ◌*◌, ◌<◌, ◌≤◌, eqb, length};
+// Whether a lent table of rows is usable, row by row.
+ghost use Rattle.std.specs.Prelude.{◌≡◌, ◌||◌, ◌+◌, ◌*◌, ◌<◌, ◌≤◌, eqb, length, true};
 ghost use Rattle.hydrostatics.specs.Usable.{spaced, rises, usable_row, usable_up_to};
-ghost use Rattle.loading.specs.Private.Afloat.{RowsWhole, usable_but_for};
+ghost use Rattle.loading.specs.Private.Afloat.{RowThere, usable_but_for, count_of};
+ghost use Rattle.loading.specs.Condition.{rows_allowed};
 ghost use Rattle.ranges.specs.Fields.{most};
 ghost use Rattle.ranges.specs.Private.InRange.{row_range};
-ghost use Rattle.ranges.specs.Sizes.{most_rows, row_width};
 
 use crate::rows;
+use hydrostatics::ROW_WIDTH;
 use ranges::Number;
 
 // Row r has draft (r + 2)·g, with g half of row 0's draft, whole and in the range of a distance between waterlines.
-fn is_spaced(rows: &[u64], r: usize) -> bool
-    requires { r < most_rows }
-    ensures { result ≡ spaced rows.now r }
+#[tactic(auto, unfolding(hydrostatics::specs::Usable::spaced, hydrostatics::specs::Usable::row_in))]
+fn is_spaced(numbers: &[u64], r: usize) -> bool
+    requires { RowThere numbers.now r }
+    ensures { result ≡ spaced numbers.now r }
 {
-    let first = rows::number_at(rows, 0);
+    let first = numbers[0];
     let spacing = first / 2;
-    if 2 * spacing != first {
-        return false;
-    }
-    if !spacing.is_within(ranges::WATERLINE_SPACING) {
-        return false;
-    }
-    rows::number_at(rows, hydrostatics::ROW_WIDTH * r) == (r as u64 + 2) * spacing
+    2 * spacing == first
+        && spacing.is_within(ranges::WATERLINE_SPACING)
+        && numbers[ROW_WIDTH * r] == (r as u64 + 2) * spacing
 }
 
 // Row r displaces more than the row before it.
-fn is_rising(rows: &[u64], r: usize) -> bool
-    requires { r < most_rows }
-    ensures { result ≡ rises rows.now r }
+#[tactic(auto, unfolding(hydrostatics::specs::Usable::rises))]
+fn is_rising(numbers: &[u64], r: usize) -> bool
+    requires { RowThere numbers.now r }
+    ensures { result ≡ rises numbers.now r }
 {
-    if r == 0 {
-        return true;
-    }
-    rows::displacement_at(rows, r - 1) < rows::displacement_at(rows, r)
+    r == 0 || rows::displacement_in(numbers, r - 1) < rows::displacement_in(numbers, r)
 }
 
 // KB + BM is KM or KM less one.
@@ -41,41 +37,31 @@ fn metacentre_fits(kb: u64, bm: u64, km: u64) -> bool
     requires { (kb ≤ most (row_range 3)) × (bm ≤ most (row_range 4)) }
     ensures { result ≡ (eqb (kb + bm) km || eqb (kb + bm + 1) km) }
 {
-    if kb + bm == km {
-        return true;
-    }
-    kb + bm + 1 == km
+    kb + bm == km || kb + bm + 1 == km
 }
 
 // Whether row r of a table is usable.
-fn is_usable(rows: &[u64], r: usize) -> bool
-    requires { (r < most_rows) × (row_width * r + row_width ≤ length rows.now) }
-    ensures { result ≡ usable_row rows.now r }
+#[tactic(auto, unfolding(hydrostatics::specs::Usable::usable_row, hydrostatics::specs::Usable::metacentre_fits))]
+fn is_usable(numbers: &[u64], r: usize) -> bool
+    requires { RowThere numbers.now r }
+    ensures { result ≡ usable_row numbers.now r }
 {
-    let row = rows::row_at(rows, r);
+    let row = rows::row_in(numbers, r);
     if hydrostatics::row_outside(row).is_some() {
         return false;
     }
-    if !is_spaced(rows, r) {
-        return false;
-    }
-    if !is_rising(rows, r) {
-        return false;
-    }
-    metacentre_fits(row.kb, row.bm, row.km)
+    is_spaced(numbers, r) && is_rising(numbers, r) && metacentre_fits(row.kb, row.bm, row.km)
 }
 
 // The first row that is not usable.
-pub(crate) fn unusable_row(rows: &[u64], count: usize) -> Option<usize>
-    requires { RowsWhole rows.now count }
-    ensures { usable_but_for count result ≡ usable_up_to rows.now count }
+pub(crate) fn first_unusable(numbers: &[u64]) -> Option<usize>
+    requires { rows_allowed (length numbers.now) ≡ true }
+    ensures { usable_but_for (count_of numbers.now) result ≡ usable_up_to numbers.now (count_of numbers.now) }
 {
-    let mut r = 0;
-    while r < count {
-        if !is_usable(rows, r) {
+    for r in 0..numbers.len() / ROW_WIDTH {
+        if !is_usable(numbers, r) {
             return Some(r);
         }
-        r += 1;
     }
     None
 }

@@ -1,5 +1,4 @@
 -- Digits in a list, the number that they make, and whether it is whole.
---     le_test                             the library's test of two numbers in order, as a range asks it
 --     digit_range, digit_is               a digit is a byte from 48 to 57
 --     digit_in, no_digit                  a byte in that range is one, and any other is none
 --     all_of_digit, all_of_append         one digit; digits after digits
@@ -16,19 +15,11 @@ use mathlib.Core.Path.{◌≡◌, refl, ◌∙◌}
 use mathlib.Core.List.{List, [], ◌∷◌, ◌++◌}
 use native.Mathlib.Nat.{pow-succ', pow-zero, mul-le-mul_right, mul_assoc, lt_of_lt_of_le}
 use native.Mathlib.Omega.{arith}
-use borrow.Author.Tests.{le-leb, leb-true, ltb-false, eq-eqb}
-use lib.Dec.{leb, ltb}
+use borrow.Author.Tests.{le-leb, leb-true}
+use lib.Dec.{leb}
 use lib.ListN.{length, get_or}
-use Rattle.std.specs.Ordering.{is_le, nat_cmp}
-use Rattle.std.proofs.lemmas.Map.Keys.{le_from_is_le}
 use Rattle.numerals.specs.Number.{minus, zero_digit, is_digit, all_digits, value_from, value, most_digits, is_digit_count, is_whole}
-use Rattle.arithmetic.proofs.Tests.{both, by_test, same_test}
-
-pub le_test : (a b : ℕ) → is_le (nat_cmp a b) ≡ leb a b
-le_test a b = same_test (is_le (nat_cmp a b)) (leb a b) (λ e. le-leb a b (le_from_is_le a b e)) (λ e. told (leb-true a b e))
-  where
-    told : a ≤ b → is_le (nat_cmp a b) ≡ true
-    told h = by_test (ltb a b) (λ t. simp t) (λ t. let same : a ≡ b = omega (arith, ltb-false a b t) in simp (t, eq-eqb a b same))
+use Rattle.arithmetic.proofs.Tests.{both, by_test}
 
 pub digit_range : (b : ℕ) → is_digit b ≡ true → (zero_digit ≤ b) × (b ≤ zero_digit + 9)
 unfolding is_digit

@@ -1,7 +1,7 @@
 // Reading: an optional minus, the digits after it, and whether they make a number.
 // The bytes are passed over once; the first alone is looked at again, for a minus.
 ghost use Rattle.std.specs.Prelude.{◌≡◌, ◌≤◌, length};
-ghost use Rattle.numerals.specs.Number.{number_of};
+ghost use Rattle.numerals.specs.Number.{is_digit_count, number_of};
 ghost use Rattle.numerals.specs.Front.{numeral_at};
 ghost use Rattle.numerals.specs.Private.Sign.{DigitsFrom};
 
@@ -39,19 +39,23 @@ pub fn numeral_at(text: &[u8], at: usize) -> Option<Numeral>
     let minus = *text.get(at)? == b'-';
     let start = at + usize::from(minus);
     let Digits { value, stop } = digits_from(text, start);
-    if !(1..=MOST_DIGITS).contains(&(stop - start)) {
+    if !is_digit_count(stop - start) {
         return None;
     }
-    // There is no minus zero.
-    if minus && value == 0 {
-        return None;
-    }
-    let value = if minus {
-        arithmetic::negated(value)
-    } else {
-        arithmetic::signed(value)
+    let value = match (minus, value) {
+        (false, _) => arithmetic::signed(value),
+        // There is no minus zero.
+        (true, 0) => return None,
+        (true, _) => arithmetic::negated(value),
     };
     Some(Numeral { value, stop })
+}
+
+// Whether a number may have so many digits: one to nine. By itself it becomes one comparison; within its caller it is two.
+fn is_digit_count(count: usize) -> bool
+    ensures { result ≡ is_digit_count count }
+{
+    (1..=MOST_DIGITS).contains(&count)
 }
 
 // The digits from a place on, ten at the most.

@@ -38,11 +38,11 @@ overflow_sub-count g c = let range = particulars_passed c.in_default.ensures in 
 pub returns-then-rows-count : goal.returns-then-rows-count
 returns-then-rows-count g c = refuses_at (wrong_room _ _ _ refl (none_place (sym c.in_default.ensures)) c.if-half_breadths-p.false c.if-rows-count.true) c.at-then-rows-count.ensures
 
-pub sums_of-requires : goal.sums_of-requires
-sums_of-requires g c = c.requires.can (record { particulars = particulars_passed c.in_default.ensures; points = c.if-half_breadths-p.false })
+pub invariant_of-hull : goal.invariant_of-hull
+invariant_of-hull g c = record { complete = record { particulars = particulars_passed c.in_default.ensures; points = c.if-half_breadths-p.false } }
 
 pub unwrap-outside-requires : goal.unwrap-outside-requires
-unwrap-outside-requires g c = found _ (c.requires.makes _ c.in_default-sums_of.ensures) c.first_outside.ensures
+unwrap-outside-requires g c = found _ (c.requires.makes _ _ c.in_default-sums_of.ensures) c.first_outside.ensures
 
 pub overflow_add-outside : goal.overflow_add-outside
 overflow_add-outside g c =
@@ -58,14 +58,14 @@ returns-in_default-sums_of g c =
 pub fill_rows-requires : goal.fill_rows-requires
 fill_rows-requires g c =
     let range = particulars_passed c.in_default.ensures in
-    let made = c.requires.makes _ c.in-Some-sums_of.ensures in
+    let made = c.requires.makes _ _ c.in-Some-sums_of.ensures in
     let all : length (take (c.args.p.m - 1) c.in-Some-sums_of.sums) ≡ c.args.p.m - 1 = length-take-le _ _ (omega arith) in
     (all_within (made_front made.1) all made.0, omega (arith, all, c.if-rows-count.false))
 
 pub returns : goal.returns
 returns g c =
     let range = particulars_passed c.in_default.ensures in
-    let made = c.requires.makes _ c.in-Some-sums_of.ensures in
+    let made = c.requires.makes _ _ c.in-Some-sums_of.ensures in
     let all : length (take (c.args.p.m - 1) c.in-Some-sums_of.sums) ≡ c.args.p.m - 1 = length-take-le _ _ (omega arith) in
     makes (rows_follow _ _ _ refl (none_place (sym c.in_default.ensures)) c.if-half_breadths-p.false c.if-rows-count.false refl (omega (arith, none_outside made.0)))
     (fills_hull (made_front made.1) all c.fill_rows.ensures)

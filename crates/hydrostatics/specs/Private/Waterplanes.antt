@@ -5,16 +5,15 @@ use Rattle.ranges.specs.declared.Particulars.{Particulars}
 use Rattle.simpson.specs.Multipliers.{multiplier}
 use Rattle.simpson.specs.Curve.{curve}
 use Rattle.hydrostatics.specs.Hull.{half_breadth, Q, C}
-use Rattle.hydrostatics.specs.Private.Hull.{Filled, Complete, OneOutside}
+use Rattle.hydrostatics.specs.Private.Hull.{Filled, OneOutside}
 use Rattle.hydrostatics.specs.Private.Sums.{most_q}
 use Rattle.hydrostatics.specs.declared.table.Sums.{Sums}
 use Rattle.hydrostatics.specs.declared.waterplanes.Waterline.{Waterline}
 
--- a complete hull, and the multiplier u of each of its stations
-pub record Given (table : List ℕ) (p : Particulars) (u : List ℕ) : Type 0 where
-  pub hull : Complete table p
-  pub long : length u ≡ p.n + 1
-  pub multipliers : Filled 0 (multiplier p.n) (p.n + 1) u
+-- the multiplier of each station over n intervals
+pub record StationMultipliers (n : ℕ) (u : List ℕ) : Type 0 where
+  pub long : length u ≡ n + 1
+  pub each : Filled 0 (multiplier n) (n + 1) u
 
 -- the sum of u·y·i at waterline j, beside those of u·y and of u·y³, which are Q and C
 unfoldable pub X : List ℕ → Particulars → ℕ → ℕ

@@ -6,17 +6,15 @@ use Rattle.loading.proofs.Order.{after_refused, after_passed}
 use Rattle.loading.proofs.Reaches.{reach_less, reach_with}
 use Rattle.loading.proofs.loaded.Goals as goal
 
-pub together-all-requires : goal.together-all-requires
-together-all-requires c = (
+pub add-requires : goal.add-requires
+add-requires c = (
   reach_less c.items_aboard.ensures.reach (omega arith) (omega arith),
   reach_less c.in_ok-in_tanks.ensures.reach (omega arith) (omega arith),
 )
 
 pub laden-requires : goal.laden-requires
-laden-requires c = (
-  rw c.together-all.ensures (reach_with c.items_aboard.ensures.reach c.in_ok-in_tanks.ensures.reach),
-  c.requires.rows_usable,
-)
+laden-requires c =
+    rw c.add.ensures (reach_with c.items_aboard.ensures.reach c.in_ok-in_tanks.ensures.reach)
 
 pub returns-in_err-in_tanks : goal.returns-in_err-in_tanks
 returns-in_err-in_tanks c =
@@ -25,4 +23,4 @@ returns-in_err-in_tanks c =
 pub returns : goal.returns
 returns c =
     c.laden.ensures
-    ∙ rw c.together-all.ensures (after_passed _ _ _ _ c.in_ok-in_tanks.ensures c.items_aboard.ensures.is)
+    ∙ rw c.add.ensures (after_passed _ _ _ _ c.in_ok-in_tanks.ensures c.items_aboard.ensures.is)

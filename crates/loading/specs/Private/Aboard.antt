@@ -1,9 +1,11 @@
 -- What is aboard, added up in one walk: kg, the moments in kg·mm, the transverse one by its two sides, and the free surface.
 -- That these sums are the load's weight and moments: `Moments` of proofs/.
-use Rattle.std.specs.Prelude.{ℕ, ◌+◌, ◌*◌, ◌/◌, ◌%◌, ◌^◌, ◌≤◌, ◌≡◌, List, [], ◌∷◌, ℤ, pos, nat_abs, length, get_or, Result, IfOk}
+use Rattle.std.specs.Prelude.{ℕ, ◌+◌, ◌*◌, ◌/◌, ◌%◌, ◌^◌, ◌≤◌, ◌≡◌, List, [], ◌∷◌, ℤ, pos, nat_abs, length, get_or, ltb, Result, IfOk}
+use Rattle.arithmetic.specs.Choice.{when◌then◌else◌}
 use Rattle.ranges.specs.Fields.{most, range_of, item, x_range, y_range, z_range}
-use Rattle.ranges.specs.Outcome.{Outcome, answered, and_then}
+use Rattle.ranges.specs.Outcome.{Outcome, answered, refused, and_then}
 use Rattle.ranges.specs.Outside.{first_outside}
+use Rattle.ranges.specs.Refusals.{out_of_range, place_of_items}
 use Rattle.ranges.specs.Reasons.{paper}
 use Rattle.ranges.specs.Sides.{sides_of}
 use Rattle.ranges.specs.Sizes.{item_width, tank_width, most_items, most_tanks}
@@ -88,13 +90,6 @@ pub record Stowed (heaviest kg x : ℕ) (y : ℤ) (z : ℕ) : Type 0 where
   pub y_most : nat_abs y ≤ most y_range
   pub z_most : z ≤ most z_range
 
--- the weight whose kg stand at place `at` of a table, and whose x, y and z from place `spot` on
-abbrev pub StowedIn : List ℤ → ℕ → ℕ → Type 0
-StowedIn table at spot = (spot + 3 ≤ length table) × Stowed (most (range_of 10)) (size_at table at) (size_at table spot) (number_at table (spot + 1)) (size_at table (spot + 2))
-
-abbrev pub weight_in : List ℤ → ℕ → ℕ → ℕ → Aboard
-weight_in table at spot surface = weight_at (size_at table at) (size_at table spot) (number_at table (spot + 1)) (size_at table (spot + 2)) surface
-
 abbrev pub StowedItem : Item → Type 0
 StowedItem i = Stowed (most (range_of 6)) i.kg i.x i.y i.z
 
@@ -141,6 +136,12 @@ pub record ItemsFit (table : List ℤ) : Type 0 where
   pub whole : length table % item_width ≡ 0
   pub few : length table ≤ most_items * item_width
   pub is_in_range : first_outside item table ≡ length table
+
+-- the ranges of the items' numbers, tried
+unfoldable pub items_tried : List ℤ → Outcome Unit
+items_tried table =
+    let outside = first_outside item table in
+    when ltb outside (length table) then refused out_of_range (place_of_items + outside) else answered tt
 
 -- what was asked, and within reach
 pub record Brought (kg kgmm : ℕ) (asked given : Aboard) : Type 0 where

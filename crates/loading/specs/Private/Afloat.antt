@@ -1,14 +1,16 @@
 -- A usable table of rows in the lent list, and where a weight within it floats: the words of private contracts.
-use Rattle.std.specs.Prelude.{ℕ, ◌+◌, ◌*◌, ◌-◌, ◌≤◌, ◌<◌, ◌≡◌, List, Option, Some, None, length}
+use Rattle.std.specs.Prelude.{ℕ, ◌+◌, ◌*◌, ◌-◌, ◌/◌, ◌≤◌, ◌<◌, ◌≡◌, Bool, true, false, not, List, Option, Some, None, length}
+use Rattle.arithmetic.specs.Choice.{when◌then◌else◌}
 use Rattle.ranges.specs.Fields.{most, highest_metacentre}
 use Rattle.ranges.specs.Private.InRange.{row_range}
 use Rattle.hydrostatics.specs.Usable.{row_in, usable_up_to}
-use Rattle.ranges.specs.Outcome.{Outcome, answered, refused}
-use Rattle.ranges.specs.Refusals.{rows_not_usable}
+use Rattle.ranges.specs.Outcome.{Outcome, answered, refused, and_then}
+use Rattle.ranges.specs.Refusals.{rows_not_usable, wrong_size, row_table}
 use Rattle.ranges.specs.Sizes.{row_width, least_rows, most_rows}
+use Rattle.loading.specs.Condition.{rows_allowed}
 use Rattle.loading.specs.Paper.{paper_rules}
 use Rattle.loading.specs.Stability.{km_at}
-use Rattle.loading.specs.Table.{Table, last_row, table_of, place_of, place_from, rows_from, draft_of}
+use Rattle.loading.specs.Table.{Table, last_row, hull, place_of, place_from, rows_from, draft_of}
 use Rattle.loading.specs.declared.Reading.{Reading}
 use Rattle.loading.specs.declared.floating.Floating.{Floating}
 
@@ -21,6 +23,25 @@ pub record RowsWhole (rows : List ℕ) (count : ℕ) : Type 0 where
 pub record RowsUsable (rows : List ℕ) (count : ℕ) : Type 0 where
   pub size : RowsWhole rows count
   pub usable : usable_up_to rows count ≡ answered count
+
+-- how many rows a lent list has
+abbrev pub count_of : List ℕ → ℕ
+count_of rows = length rows / row_width
+
+-- what a lent list of rows comes to: refused by its size, or at the first row that is not usable; or its numbers as they are
+unfoldable pub rows_tried : List ℕ → Outcome (List ℕ)
+rows_tried rows =
+    when not (rows_allowed (length rows)) then refused wrong_size row_table
+    else and_then (usable_up_to rows (count_of rows)) (λ good. answered rows)
+
+abbrev pub is_answered : {A : Type 0} → Outcome A → Bool
+is_answered (answered a) = true
+is_answered (refused number place) = false
+
+-- row r stands in the list whole, and is one of no more than there may be
+pub record RowThere (rows : List ℕ) (r : ℕ) : Type 0 where
+  pub few : r < most_rows
+  pub whole : row_width * r + row_width ≤ length rows
 
 -- the first row that is not usable, if there is one
 abbrev pub usable_but_for : ℕ → Option ℕ → Outcome ℕ
@@ -41,13 +62,13 @@ pub record OnLine (a b lo hi w : ℕ) : Type 0 where
   pub second : b ≤ highest_metacentre
 
 -- the last row not above W, from which W falls where it falls in the table
-pub record RowBelow (rows : List ℕ) (count W r : ℕ) : Type 0 where
-  pub there : r < count
+pub record RowBelow (rows : List ℕ) (W r : ℕ) : Type 0 where
+  pub there : r < count_of rows
   pub not_above : (row_in rows r).displacement ≤ W
-  pub next_above : r + 1 < count → W < (row_in rows (r + 1)).displacement
-  pub falls : place_of (table_of rows count) W ≡ place_from (row_in rows r) (rows_from rows (r + 1) (count - (r + 1))) W
+  pub next_above : r + 1 < count_of rows → W < (row_in rows (r + 1)).displacement
+  pub falls : place_of (hull rows) W ≡ place_from (row_in rows r) (rows_from rows (r + 1) (count_of rows - (r + 1))) W
 
-pub record Floats (reading : Reading) (rows : List ℕ) (count W : ℕ) (f : Floating) : Type 0 where
-  pub draft : f.draft ≡ draft_of (table_of rows count) W
-  pub km : f.km ≡ km_at (paper_rules reading) (table_of rows count) W
+pub record Floats (reading : Reading) (rows : List ℕ) (W : ℕ) (f : Floating) : Type 0 where
+  pub draft : f.draft ≡ draft_of (hull rows) W
+  pub km : f.km ≡ km_at (paper_rules reading) (hull rows) W
   pub km_most : f.km ≤ highest_metacentre

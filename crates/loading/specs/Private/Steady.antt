@@ -6,8 +6,7 @@ use Rattle.arithmetic.specs.Rounding.{rounded_up}
 use Rattle.ranges.specs.Fields.{most, highest_metacentre, y_range}
 use Rattle.ranges.specs.Outcome.{Outcome, answered, refused, and_then}
 use Rattle.ranges.specs.Refusals.{too_light, too_heavy}
-use Rattle.loading.specs.Private.Aboard.{most_in_items, most_in_tanks, Bearable, ItemsFit, TanksWhole}
-use Rattle.loading.specs.Private.Afloat.{RowsUsable}
+use Rattle.loading.specs.Private.Aboard.{most_in_items, most_in_tanks, Bearable}
 use Rattle.loading.specs.Condition.{tanks_from, floats}
 use Rattle.loading.specs.Paper.{paper_rules}
 use Rattle.loading.specs.Records.{load_of}
@@ -74,8 +73,3 @@ floats_with reading t a =
 -- once sizes, rows and items are allowed: the tanks, and then the weight
 unfoldable pub after_items : Reading → List ℤ → List ℤ → Table → Outcome Condition
 after_items reading items tanks t = and_then (tanks_from 0 tanks) (λ last. floats reading t (load_of items tanks))
-
-pub record Loadable (items tanks : List ℤ) (rows : List ℕ) (count : ℕ) : Type 0 where
-  pub items_fitting : ItemsFit items
-  pub tanks_whole : TanksWhole tanks
-  pub rows_usable : RowsUsable rows count

@@ -6,4 +6,4 @@ use Rattle.hydrostatics.proofs.Filling.{Filling}
 use Rattle.hydrostatics.proofs.waterplanes.hull_sums.Given as goal
 
 abbrev pub invariant-loop-j : goal.invariant-loop-j
-invariant-loop-j l = ((k : ℕ) → k < l.j → LineInRange l.table l.p k) × Filling no_waterline (waterline_at l.table l.p) (most (range_of 1) + 1) l.j l.lines
+invariant-loop-j l = ((k : ℕ) → k < l.j → LineInRange l.hull.half_breadths.now l.hull.particulars k) × Filling no_waterline (waterline_at l.hull.half_breadths.now l.hull.particulars) (most (range_of 1) + 1) l.j l.lines

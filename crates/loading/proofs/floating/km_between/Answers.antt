@@ -11,7 +11,7 @@ returns-in-Lesser c =
     let s = c.args in
     let rule : Reading → ℕ = λ reading. (rule_of reading).given (between s.row s.next) s.weight in
     let read : rule s.reading ≡ min s.row.km s.next.km = ap rule c.in-Lesser.is in
-    let given : c.lesser.result ≡ min s.row.km s.next.km = c.lesser.ensures in
+    let given : c.min.result ≡ min s.row.km s.next.km = c.min.ensures in
     given ∙ sym read
 
 pub returns-in-StraightLine : goal.returns-in-StraightLine

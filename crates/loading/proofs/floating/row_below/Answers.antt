@@ -1,36 +1,46 @@
 -- The walk up the rows while the next is not above the weight. Assumes nothing.
-use mathlib.Core.Path.{refl, ◌∙◌}
-use Prim.Native.Nat.{◌+◌, ◌≤◌}
+use mathlib.Core.Path.{◌≡◌, refl, ◌∙◌}
+use Prim.Native.Nat.{◌+◌, ◌-◌, ◌≤◌}
 use native.Mathlib.Omega.{arith}
 use Rattle.hydrostatics.specs.Usable.{row_in}
+use Rattle.loading.specs.Private.Afloat.{count_of}
 use Rattle.loading.proofs.Tables.{place_next}
+use Rattle.loading.proofs.Trying.{lent_usable}
 use Rattle.loading.proofs.floating.row_below.Goals as goal
 
-pub loop-r-init : goal.loop-r-init
-loop-r-init c = (c.requires.0, c.requires.2, refl)
+pub overflow_sub-last : goal.overflow_sub-last
+overflow_sub-last c = omega (arith, c.count-last.ensures, (lent_usable c.args.rows.numbers.now c.args.rows.usable).size.least)
 
-pub returns-then-weight-displacement_at : goal.returns-then-weight-displacement_at
-returns-then-weight-displacement_at c =
+pub loop-r-init : goal.loop-r-init
+loop-r-init c = (c.requires, refl)
+
+pub displacement-requires : goal.displacement-requires
+displacement-requires c = omega (arith, c.count-last.ensures)
+
+pub returns-then-weight-displacement : goal.returns-then-weight-displacement
+returns-then-weight-displacement c =
     let l = c.loop-r in
     record {
-      there = l.invariant.0;
-      not_above = l.invariant.1;
-      next_above = λ h. omega (arith, c.displacement_at.ensures, c.if-weight-displacement_at.true);
-      falls = l.invariant.2;
+      there = omega (arith, c.count-last.ensures);
+      not_above = l.invariant.0;
+      next_above = λ h. omega (arith, c.displacement.ensures, c.if-weight-displacement.true);
+      falls = l.invariant.1;
     }
 
 pub loop-r-preserved : goal.loop-r-preserved
 loop-r-preserved c =
     let s = c.args in
-    let lighter : (row_in s.rows.now (c.loop-r.r + 1)).displacement ≤ s.weight = omega (arith, c.displacement_at.ensures, c.if-weight-displacement_at.false) in
-    (c.loop-r-test.true, lighter, c.loop-r.invariant.2 ∙ place_next s.rows.now s.count c.loop-r.r s.weight c.loop-r-test.true lighter)
+    let rows = s.rows.numbers.now in
+    let lighter : (row_in rows (c.loop-r.r + 1)).displacement ≤ s.weight = omega (arith, c.displacement.ensures, c.if-weight-displacement.false) in
+    (lighter, c.loop-r.invariant.1 ∙ place_next rows (count_of rows) c.loop-r.r s.weight (omega (arith, c.count-last.ensures)) lighter)
 
 pub returns : goal.returns
 returns c =
-    let l = c.loop-r in
-    record {
-      there = l.invariant.0;
-      not_above = l.invariant.1;
-      next_above = λ h. absurd (omega (arith, c.loop-r-test.false));
-      falls = l.invariant.2;
-    }
+    let rows = c.args.rows.numbers.now in
+    let last : c.loop-r.r ≡ c.count-last.result - 1 = omega arith in
+    rw (← last) (record {
+      there = omega (arith, c.count-last.ensures, (lent_usable c.args.rows.numbers.now c.args.rows.usable).size.least);
+      not_above = c.loop-r.invariant.0;
+      next_above = λ h. absurd (omega (arith, c.count-last.ensures));
+      falls = c.loop-r.invariant.1;
+    })

@@ -1,49 +1,35 @@
 -- The walk, item by item. Assumes nothing.
-use mathlib.Core.Path.{◌≡◌, refl, ap, ◌∙◌}
-use mathlib.Core.List.{[]}
-use native.Mathlib.Nat.{add_assoc}
+use mathlib.Core.Path.{ap, ◌∙◌}
 use native.Mathlib.Omega.{arith}
-use Rattle.ranges.specs.Sizes.{item_width}
-use Rattle.ranges.specs.Fields.{most, range_of}
-use Rattle.loading.specs.Private.Aboard.{◌with◌, item_at, of_item}
-use Rattle.loading.specs.Records.{items_of}
+use Rattle.loading.specs.Private.Aboard.{Bearable, ◌with◌, weight_at}
 use Rattle.loading.proofs.Reaches.{reach_weight, reach_less}
-use Rattle.loading.proofs.Stowage.{item_stowed, item_stowed_in}
-use Rattle.loading.proofs.Walks.{walk_start, walk_step, walk_end, items_next}
+use Rattle.loading.proofs.Stowage.{at_first_item, four, next_stowed, few_items, past_item, past_all}
+use Rattle.loading.proofs.Walks.{nothing_is}
 use Rattle.loading.proofs.items.items_aboard.Goals as goal
-use Rattle.loading.proofs.items.items_aboard.Goals.{After-weight_in}
 
-brings : (c : After-weight_in) → c.weight_in.result ≡ of_item (item_at c.args.items.now c.loop-i.i)
-brings c = c.weight_in.ensures ∙ simp add_assoc
+pub loop-numbers-init : goal.loop-numbers-init
+loop-numbers-init c =
+    let chunks = c.chunks_exact-numbers-items.ensures in
+    rw (c.into_iter-numbers-iterator.ensures.into_iter_gives, chunks.rest, chunks.size, nothing_is c.default-all.result c.default-all.ensures) (at_first_item c.args.items.now c.requires)
 
-none_left : items_of [] ≡ []
-unfolding items_of
-none_left = refl
+pub of_item-requires : goal.of_item-requires
+of_item-requires c =
+    let next = c.in-Some.ensures.steps.1 in
+    (four c.loop-numbers.invariant _ _ next.0 next.1, next_stowed c.loop-numbers.invariant _ _ next.0 next.1)
 
-pub loop-i-init : goal.loop-i-init
-loop-i-init c = rw c.none-all.ensures (walk_start of_item items_of item_width (most (range_of 6)) 0 c.args.items.now)
+pub add-all-requires : goal.add-all-requires
+add-all-requires c =
+    let next = c.in-Some.ensures.steps.1 in
+    let one : Bearable c.aboard.result =
+    rw (c.aboard.ensures ∙ ap (λ i. weight_at i.kg i.x i.y i.z 0) c.of_item.ensures)
+    (reach_less (reach_weight (next_stowed c.loop-numbers.invariant _ _ next.0 next.1) 0) (omega arith) (omega arith)) in
+    (few_items c.loop-numbers.invariant c.requires, one)
 
-pub weight_in-requires : goal.weight_in-requires
-weight_in-requires c = item_stowed_in _ _ c.requires (omega (arith, c.loop-i.invariant.at)) c.loop-i-test.true
-
-pub together-all-requires : goal.together-all-requires
-together-all-requires c =
-    let reach = reach_weight (item_stowed _ _ c.requires (omega (arith, c.loop-i.invariant.at)) c.loop-i-test.true) 0 in
-    (reach_less c.loop-i.invariant.reach (omega arith) (omega arith), rw (brings c) (reach_less reach (omega arith) (omega arith)))
-
-pub loop-i-preserved : goal.loop-i-preserved
-loop-i-preserved c =
-    let items = c.args.items.now in
-    let i = c.loop-i.i in
-    let w = c.loop-i.invariant in
-    walk_step of_item items_of item_width (most (range_of 6)) 0 items (item_at items i) w (omega (arith, w.at)) (items_next items i (omega (arith, w.at)))
-    (reach_weight (item_stowed items i c.requires (omega (arith, w.at)) c.loop-i-test.true) 0)
-    (c.together-all.ensures ∙ ap (λ a. c.loop-i.all with a) (brings (goal.at.loop-i-preserved c).After-weight_in))
+pub loop-numbers-preserved : goal.loop-numbers-preserved
+loop-numbers-preserved c =
+    let next = c.in-Some.ensures.steps.1 in
+    rw c.in-Some.ensures.steps.0 (past_item c.loop-numbers.invariant _ _ next.0 next.1
+    (c.add-all.ensures ∙ ap (λ a. c.loop-numbers.all with a) (c.aboard.ensures ∙ ap (λ i. weight_at i.kg i.x i.y i.z 0) c.of_item.ensures)))
 
 pub returns : goal.returns
-returns c =
-    let w = c.loop-i.invariant in
-    record {
-      is = walk_end of_item items_of item_width (most (range_of 6)) 0 c.args.items.now w c.loop-i-test.false none_left;
-      reach = reach_less w.reach (omega arith) (omega arith);
-    }
+returns c = past_all c.loop-numbers.invariant c.in-None.ensures.steps.1.0 c.requires
