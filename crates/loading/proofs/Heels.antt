@@ -1,10 +1,8 @@
--- The heel and the pass, by the tests that tell them.
---     above_negative, above_whole                what lies above 0, by the sign
+-- The heel, by the tests that tell it.
 --     unstable, upright, heeled, beyond          the four outcomes
---     pass_by                                    the pass, by what lies above 0
 -- Assumes nothing.
 use mathlib.Core.Path.{◌≡◌, refl, sym, ap, ◌∙◌}
-use mathlib.Core.Bool.{true, false, ◌&&◌}
+use mathlib.Core.Bool.{true, false}
 use Prim.Native.Nat.{ℕ, ◌*◌, ◌≤◌, ◌<◌}
 use native.Mathlib.Nat.{mul_assoc}
 use native.Mathlib.Omega.{arith}
@@ -12,23 +10,12 @@ use borrow.Author.Tests.{eq-eqb, ne_eqb, le-leb, lt-leb}
 use lib.Dec.{leb}
 use lib.IntN.{ℤ, pos, negsuc, nat_abs}
 use lib.Signed.{le_z}
-use Rattle.arithmetic.specs.Signed.{is_negative}
 use Rattle.arithmetic.proofs.Choice.{chosen}
-use Rattle.arithmetic.proofs.Tests.{never}
-use Rattle.loading.specs.Stability.{heel_limit, ten_thousandths, least_gm, tangent, heel_of, stands}
-use Rattle.loading.specs.Private.Steady.{above_zero, passes_with}
-use Rattle.loading.specs.declared.Heel.{Heel}
+use Rattle.loading.specs.Stability.{heel_limit, ten_thousandths, tangent, heel_of}
+use Rattle.loading.specs.Private.Steady.{above_zero}
 use Rattle.loading.specs.declared.Heel.TheVariants.{Unstable, Upright, Heeled, Beyond}
 
 -- ---- what lies above 0
-pub above_negative : (v : ℤ) → is_negative v ≡ true → 0 ≡ above_zero v
-above_negative (pos n) e = never e
-above_negative (negsuc n) e = refl
-
-pub above_whole : (v : ℤ) → is_negative v ≡ false → nat_abs v ≡ above_zero v
-above_whole (pos n) e = refl
-above_whole (negsuc n) e = never (sym e)
-
 none_above : (v : ℤ) → above_zero v ≡ 0 → le_z v (pos 0) ≡ true
 none_above (pos n) e = le-leb n 0 (omega arith)
 none_above (negsuc n) e = refl
@@ -62,8 +49,3 @@ module _ (W g m : ℕ) (gm my : ℤ) (p : g ≡ above_zero gm) where
       pub beyond : heel_limit * (W * g) < ten_thousandths * m → Beyond ≡ heel_of W gm my
       unfolding heel_of
       beyond h = rw (gm_is, ← q, ne_eqb m 0 b, stable, mul_assoc heel_limit W g, lt-leb _ _ h) (simp chosen)
-
--- ---- the pass
-pub pass_by : (gm : ℤ) (heel : Heel) → passes_with gm heel ≡ (leb least_gm (above_zero gm) && stands heel)
-pass_by (pos n) heel = refl
-pass_by (negsuc n) heel = refl

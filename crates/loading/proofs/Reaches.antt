@@ -1,6 +1,5 @@
 -- Bounds on what is aboard, from the ranges of its numbers.
 --     sides_together             the two sides of y are its distance from the middle line
---     port_most, starboard_most  so each is within its range
 --     reach_weight               what one weight brings
 --     reach_less, reach_with     within a smaller reach; and two together
 -- Assumes nothing.
@@ -19,12 +18,6 @@ sides_together (pos n) = omega arith
 sides_together (negsuc n) = omega arith
 
 module _ {heaviest kg x : ℕ} {y : ℤ} {z : ℕ} (s : Stowed heaviest kg x y z) where
-  pub port_most : (sides_of y).port ≤ most y_range
-  port_most = omega (arith, sides_together y)
-
-  pub starboard_most : (sides_of y).starboard ≤ most y_range
-  starboard_most = omega (arith, sides_together y)
-
   pub reach_weight : (surface : ℕ) → Reach heaviest surface (weight_at kg x y z surface)
   reach_weight surface =
       let both : (sides_of y).port + (sides_of y).starboard ≤ most y_range = omega (arith, sides_together y) in

@@ -5,9 +5,9 @@
 --     lent_usable, lent_answered                   and what its being answered tells
 -- Assumes nothing.
 use mathlib.Core.Path.{◌≡◌, refl, sym, ap, ◌∙◌}
-use mathlib.Core.Bool.{true, false, ◌&&◌, ◌||◌}
+use mathlib.Core.Bool.{true, false, ◌&&◌}
 use mathlib.Core.List.{List, map}
-use Prim.Native.Nat.{ℕ, zero, suc, ◌+◌, ◌*◌, ◌≤◌, ◌<◌}
+use Prim.Native.Nat.{ℕ, zero, suc, ◌+◌, ◌*◌, ◌-◌, ◌≤◌, ◌<◌}
 use native.Mathlib.Numerals.{add-one}
 use native.Mathlib.Decide.{dec_lt}
 use native.Mathlib.Omega.{arith}
@@ -32,9 +32,15 @@ use Rattle.ranges.specs.Sizes.{whole_records, row_width, least_rows, most_rows}
 use Rattle.hydrostatics.proofs.InRows.{row_in_range}
 use Rattle.ranges.proofs.Facts.{records_are}
 use Rattle.loading.specs.Condition.{rows_allowed}
-use Rattle.loading.specs.Private.Afloat.{count_of, rows_tried, is_answered, RowsWhole, RowsUsable}
+use Rattle.loading.specs.Private.Afloat.{count_of, spaced_from, rises_from, fits_metacentre, rows_tried, is_answered, RowsWhole, RowsUsable}
 use Rattle.loading.proofs.Usability.{usable_count}
 use Rattle.hydrostatics.proofs.Reading.{seven_are}
+
+rises_is : (rows : List ℕ) (r : ℕ) → rises rows r ≡ rises_from (row_in rows (r - 1)) (row_in rows r) r
+unfolding rises
+rises_is rows zero = refl
+rises_is rows (suc r) =
+    let m : suc r - 1 ≡ r = omega arith in rw (m, ne_eqb (suc r) 0 (λ e. omega arith))
 
 -- ---- the row
 module _ (rows : List ℕ) (r : ℕ) (whole : row_width * r + row_width ≤ length rows) {row : Row} (here : row ≡ row_in rows r) where
@@ -65,9 +71,9 @@ module _ (rows : List ℕ) (r : ℕ) (whole : row_width * r + row_width ≤ leng
       ranged : in_range rows r ≡ true
       ranged = range_is ∙ eq-eqb outside row_width all_inside
 
-      pub usable_is : usable_row rows r ≡ (spaced rows r && rises rows r && (eqb (row.kb + row.bm) row.km || eqb (row.kb + row.bm + 1) row.km))
-      unfolding usable_row metacentre_fits
-      usable_is = rw (ranged, here)
+      pub usable_is : {first before : Row} → first ≡ row_in rows 0 → before ≡ row_in rows (r - 1) → usable_row rows r ≡ (spaced_from first row r && rises_from before row r && fits_metacentre row)
+      unfolding usable_row spaced metacentre_fits
+      usable_is e f = rw (ranged, rises_is rows r, e, f, here)
 
       -- KB and BM are in their ranges, so that their sum fits
       pub heights_most : (row.kb ≤ most (row_range 3)) × (row.bm ≤ most (row_range 4))

@@ -42,6 +42,7 @@ fn km_between(reading: Reading, row: Row, next: Row, weight: u64) -> u64
 }
 
 // The last of the rows whose displacement is not above the weight.
+// Tried one by one: there are 19 at most, and the lent table is one slice of numbers and no slice of rows to search in.
 fn row_below(rows: Rows, weight: u64) -> usize
     requires { (row_in rows.numbers.now 0).displacement ≤ weight }
     ensures { RowBelow rows.entry.numbers.now weight result }

@@ -179,7 +179,7 @@ pub fn condition_of(items: &[i64], tanks: &[i64], rows: &[u64]) -> Result<Condit
     condition_by(Reading::DEFAULT, items, tanks, rows)
 }
 
-// The totals of what is aboard.
+// The totals of what is aboard. No `From`, since it asks that they fit.
 fn totals_of(all: Aboard) -> Totals
     requires { Bearable all }
     ensures { result ≡ totals_with all }

@@ -26,15 +26,6 @@ pub(crate) fn row_in(numbers: &[u64], r: usize) -> Row
     ])
 }
 
-// The displacement of row r of a lent table.
-#[tactic(auto, unfolding(hydrostatics::specs::Usable::row_in))]
-pub(crate) fn displacement_in(numbers: &[u64], r: usize) -> u64
-    requires { row_width * r + row_width ≤ length numbers.now }
-    ensures { result ≡ (row_in numbers.now r).displacement }
-{
-    numbers[ROW_WIDTH * r + 1]
-}
-
 // 2 to 19 rows of a lent table, all usable.
 #[derive(Clone, Copy)]
 pub(crate) struct Rows<'a> {
@@ -67,6 +58,7 @@ impl<'a> Rows<'a> {
         self.numbers.len() / ROW_WIDTH
     }
 
+    // Row r of them.
     pub(crate) fn row(self, r: usize) -> Row
         requires { r < count_of self.numbers.now }
         ensures { result ≡ row_in self.entry.numbers.now r }
@@ -74,10 +66,12 @@ impl<'a> Rows<'a> {
         row_in(self.numbers, r)
     }
 
+    // Its displacement alone.
+    #[tactic(auto, unfolding(hydrostatics::specs::Usable::row_in))]
     pub(crate) fn displacement(self, r: usize) -> u64
         requires { r < count_of self.numbers.now }
         ensures { result ≡ (row_in self.entry.numbers.now r).displacement }
     {
-        displacement_in(self.numbers, r)
+        self.numbers[ROW_WIDTH * r + 1]
     }
 }

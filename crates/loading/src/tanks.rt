@@ -37,7 +37,7 @@ impl Tank {
     ghost use Rattle.loading.specs.Rules.{surface_of};
     ghost use Rattle.ranges.specs.Sizes.{tank_width};
 
-    // The tank of eight numbers.
+    // The tank of eight numbers. No `From`, since it asks that they are in their ranges.
     fn of(numbers: &[i64]) -> Tank
         requires { (length numbers.now ≡ tank_width) × TankFits (tank_at numbers.now 0) }
         ensures { tank_of result ≡ tank_at numbers.now 0 }

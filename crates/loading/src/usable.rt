@@ -1,56 +1,54 @@
 // Whether a lent table of rows is usable, row by row.
-ghost use Rattle.std.specs.Prelude.{◌≡◌, ◌||◌, ◌+◌, ◌*◌, ◌<◌, ◌≤◌, eqb, length, true};
-ghost use Rattle.hydrostatics.specs.Usable.{spaced, rises, usable_row, usable_up_to};
-ghost use Rattle.loading.specs.Private.Afloat.{RowThere, usable_but_for, count_of};
+ghost use Rattle.std.specs.Prelude.{◌≡◌, ◌+◌, ◌*◌, ◌<◌, ◌≤◌, length, true};
+ghost use Rattle.hydrostatics.specs.Usable.{usable_row, usable_up_to};
+ghost use Rattle.loading.specs.Private.Afloat.{spaced_from, rises_from, fits_metacentre, usable_but_for, count_of};
 ghost use Rattle.loading.specs.Condition.{rows_allowed};
 ghost use Rattle.ranges.specs.Fields.{most};
 ghost use Rattle.ranges.specs.Private.InRange.{row_range};
+ghost use Rattle.ranges.specs.Sizes.{row_width, most_rows};
 
 use crate::rows;
-use hydrostatics::ROW_WIDTH;
+use hydrostatics::{ROW_WIDTH, Row};
 use ranges::Number;
 
 // Row r has draft (r + 2)·g, with g half of row 0's draft, whole and in the range of a distance between waterlines.
-#[tactic(auto, unfolding(hydrostatics::specs::Usable::spaced, hydrostatics::specs::Usable::row_in))]
-fn is_spaced(numbers: &[u64], r: usize) -> bool
-    requires { RowThere numbers.now r }
-    ensures { result ≡ spaced numbers.now r }
+fn is_spaced(first: Row, row: Row, r: usize) -> bool
+    requires { r < most_rows }
+    ensures { result ≡ spaced_from first row r }
 {
-    let first = numbers[0];
-    let spacing = first / 2;
-    2 * spacing == first
+    let spacing = first.draft / 2;
+    2 * spacing == first.draft
         && spacing.is_within(ranges::WATERLINE_SPACING)
-        && numbers[ROW_WIDTH * r] == (r as u64 + 2) * spacing
-}
-
-// Row r displaces more than the row before it.
-#[tactic(auto, unfolding(hydrostatics::specs::Usable::rises))]
-fn is_rising(numbers: &[u64], r: usize) -> bool
-    requires { RowThere numbers.now r }
-    ensures { result ≡ rises numbers.now r }
-{
-    r == 0 || rows::displacement_in(numbers, r - 1) < rows::displacement_in(numbers, r)
+        && row.draft == (r as u64 + 2) * spacing
 }
 
 // KB + BM is KM or KM less one.
-fn metacentre_fits(kb: u64, bm: u64, km: u64) -> bool
-    requires { (kb ≤ most (row_range 3)) × (bm ≤ most (row_range 4)) }
-    ensures { result ≡ (eqb (kb + bm) km || eqb (kb + bm + 1) km) }
+fn metacentre_fits(row: Row) -> bool
+    requires { (row.kb ≤ most (row_range 3)) × (row.bm ≤ most (row_range 4)) }
+    ensures { result ≡ fits_metacentre row }
 {
-    kb + bm == km || kb + bm + 1 == km
+    row.kb + row.bm == row.km || row.kb + row.bm + 1 == row.km
+}
+
+// Row r displaces more than the row before it; row 0 has none.
+fn is_rising(before: Row, row: Row, r: usize) -> bool
+    ensures { result ≡ rises_from before row r }
+{
+    r == 0 || before.displacement < row.displacement
 }
 
 // Whether row r of a table is usable.
-#[tactic(auto, unfolding(hydrostatics::specs::Usable::usable_row, hydrostatics::specs::Usable::metacentre_fits))]
 fn is_usable(numbers: &[u64], r: usize) -> bool
-    requires { RowThere numbers.now r }
+    requires { (r < most_rows) × (row_width * r + row_width ≤ length numbers.now) }
     ensures { result ≡ usable_row numbers.now r }
 {
     let row = rows::row_in(numbers, r);
     if hydrostatics::row_outside(row).is_some() {
         return false;
     }
-    is_spaced(numbers, r) && is_rising(numbers, r) && metacentre_fits(row.kb, row.bm, row.km)
+    let first = rows::row_in(numbers, 0);
+    let before = rows::row_in(numbers, r.saturating_sub(1));
+    is_spaced(first, row, r) && is_rising(before, row, r) && metacentre_fits(row)
 }
 
 // The first row that is not usable.

@@ -38,7 +38,7 @@ impl Weight {
         }
     }
 
-    // An item of four numbers.
+    // An item of four numbers. No `From`, since it asks that they are in their ranges.
     pub(crate) fn of_item(numbers: &[i64]) -> Weight
         requires { (length numbers.now ≡ item_width) × StowedItem (item_at numbers.now 0) }
         ensures { item_of result ≡ item_at numbers.now 0 }

@@ -14,8 +14,7 @@ use lib.IntN.{ℤ}
 use lib.ListN.{length}
 use Rattle.arithmetic.specs.Choice.{when◌then◌else◌}
 use Rattle.numerals.specs.Number.{minus, zero_digit, number_of}
-use Rattle.numerals.specs.declared.reading.Number.{Number}
-use Rattle.numerals.specs.declared.reading.Number.TheVariants.{Is, Not}
+use Rattle.std.specs.Prelude.{Option, Some, None}
 use Rattle.ranges.specs.Outcome.{answered}
 use Rattle.ranges.specs.Sizes.{longest_file, room_for_half_breadths, room_for_items, room_for_tanks}
 use Rattle.offsets.specs.File.{Contents, file}
@@ -27,11 +26,11 @@ use Rattle.offsets.proofs.FileIn.{file_in}
 use Rattle.offsets.proofs.Layouts.{Holds, nothing, separator, last, before, says_held}
 
 -- what separates in one separates in the other, and a number of the one is the same number in the other
-pub record Stricter (separates : ℕ → Bool) (says : List ℕ → Number) : Type 0 where
+pub record Stricter (separates : ℕ → Bool) (says : List ℕ → Option ℤ) : Type 0 where
   pub separators : (b : ℕ) → separates b ≡ true → is_separator b ≡ true
-  pub numbers : (token : List ℕ) {v : ℤ} → says token ≡ Is v → number_of token ≡ Is v
+  pub numbers : (token : List ℕ) {v : ℤ} → says token ≡ Some v → number_of token ≡ Some v
 
-module _ {separates : ℕ → Bool} {says : List ℕ → Number} (stricter : Stricter separates says) where
+module _ {separates : ℕ → Bool} {says : List ℕ → Option ℤ} (stricter : Stricter separates says) where
   holds_still : {vs : List ℤ} {text : List ℕ} → Holds separates says vs text → HoldsNumbers vs text
   holds_still nothing = nothing
   holds_still (separator {b = b} e h) = separator (stricter.separators b e) (holds_still h)
@@ -57,14 +56,14 @@ unfoldable pub without_minus : List ℕ → List ℕ
 without_minus [] = []
 without_minus (b ∷ rest) = when eqb b minus then rest else b ∷ rest
 
-unfoldable pub number_before : List ℕ → Number
-number_before token = when leading_zero (without_minus token) then Not else number_of token
+unfoldable pub number_before : List ℕ → Option ℤ
+number_before token = when leading_zero (without_minus token) then None else number_of token
 
 abbrev pub tokens_before : List ℕ → List Token
 tokens_before text = tokens_by separated_before number_before 0 [] text
 
 -- ---- it is stricter
-number_left : (t : Bool) {n : Number} {v : ℤ} → (when t then Not else n) ≡ Is v → n ≡ Is v
+number_left : (t : Bool) {n : Option ℤ} {v : ℤ} → (when t then None else n) ≡ Some v → n ≡ Some v
 unfolding when◌then◌else◌
 number_left true e = let z : ◌≡◌ {A = ℕ} 0 1 = cc in absurd (omega arith)
 number_left false e = e

@@ -32,7 +32,7 @@ use Rattle.offsets.specs.Tokens.{Token, tokens}
 use Rattle.offsets.specs.declared.reading.Cursor.{Cursor}
 use Rattle.offsets.proofs.Particulars.{hull_fits}
 use Rattle.offsets.specs.declared.tokens.Found.{Found}
-use Rattle.offsets.specs.declared.tokens.Numeral.{Numeral}
+use Rattle.numerals.specs.declared.reading.Numeral.{Numeral}
 use Rattle.std.specs.Prelude.{Option, Some, None, Result, Ok, Err}
 
 module _ (fields : List Range) where

@@ -15,7 +15,7 @@ use Rattle.arithmetic.specs.Choice.{when◌then◌else◌}
 use Rattle.arithmetic.proofs.Choice.{if_either}
 use Rattle.arithmetic.proofs.Tests.{never}
 use Rattle.numerals.specs.Number.{number_of}
-use Rattle.numerals.specs.declared.reading.Number.TheVariants.{Is}
+use Rattle.std.specs.Prelude.{Some}
 use Rattle.ranges.specs.Outcome.{answered}
 use Rattle.offsets.specs.File.{Contents, file}
 use Rattle.offsets.specs.Tokens.{space, line_feed, tab, carriage_return, is_separator, tokens}
@@ -64,7 +64,7 @@ separators_before : {l : List ℕ} → Separators l → {vs : List ℤ} {text : 
 separators_before (one e) h = separator e h
 separators_before (and e s) h = separator e (separators_before s h)
 
-number_before : {l : List ℕ} → Separators l → (token : List ℕ) {v : ℤ} {vs : List ℤ} {text : List ℕ} → number_of token ≡ Is v → HoldsNumbers vs text → HoldsNumbers (v ∷ vs) (token ++ (l ++ text))
+number_before : {l : List ℕ} → Separators l → (token : List ℕ) {v : ℤ} {vs : List ℤ} {text : List ℕ} → number_of token ≡ Some v → HoldsNumbers vs text → HoldsNumbers (v ∷ vs) (token ++ (l ++ text))
 number_before (one e) token n h = before n e h
 number_before (and e s) token n h = before n e (separators_before s h)
 

@@ -13,8 +13,7 @@ use lib.IntN.{ℤ}
 use lib.ListN.{length, get_or}
 use Rattle.arithmetic.proofs.Choice.{chosen, if_either}
 use Rattle.numerals.specs.Number.{number_of}
-use Rattle.numerals.specs.declared.reading.Number.{Number}
-use Rattle.numerals.specs.declared.reading.Number.TheVariants.{Is, Not}
+use Rattle.std.specs.Prelude.{Option, Some, None}
 use Rattle.numerals.proofs.Numbers.{every_byte, some_of_number}
 use Rattle.offsets.specs.Tokens.{Token, number, is_separator, said, closed, tokens_by, tokens_from}
 use Rattle.offsets.proofs.Words.{Clear, none, more, digit_no_separator, run_takes, closed_is}
@@ -27,29 +26,29 @@ pub says_same : {vs ws : List ℤ} {ts : List Token} → Says vs ts → Says ws 
 says_same silent silent = refl
 says_same (followed {v = v} s) (followed t) = ap (λ l. v ∷ l) (says_same s t)
 
-module _ (separates : ℕ → Bool) (says : List ℕ → Number) where
+module _ (separates : ℕ → Bool) (says : List ℕ → Option ℤ) where
   -- a number is the last thing in the text, or stands before a separator
   pub data Holds : List ℤ → List ℕ → Type 0 where
     nothing : Holds [] []
     separator : {b : ℕ} {vs : List ℤ} {text : List ℕ} → separates b ≡ true → Holds vs text → Holds vs (b ∷ text)
-    last : {token : List ℕ} {v : ℤ} → says token ≡ Is v → Holds (v ∷ []) token
-    before : {token : List ℕ} {v : ℤ} {b : ℕ} {vs : List ℤ} {text : List ℕ} → says token ≡ Is v → separates b ≡ true → Holds vs text → Holds (v ∷ vs) (token ++ b ∷ text)
+    last : {token : List ℕ} {v : ℤ} → says token ≡ Some v → Holds (v ∷ []) token
+    before : {token : List ℕ} {v : ℤ} {b : ℕ} {vs : List ℤ} {text : List ℕ} → says token ≡ Some v → separates b ≡ true → Holds vs text → Holds (v ∷ vs) (token ++ b ∷ text)
 
 -- ---- from the tokens to the text
 -- the first of the tokens says the first of the numbers
-record First (n : Number) (vs : List ℤ) (ts : List Token) : Type 0 where
+record First (n : Option ℤ) (vs : List ℤ) (ts : List Token) : Type 0 where
   v : ℤ
   more_numbers : List ℤ
-  number_is : n ≡ Is v
+  number_is : n ≡ Some v
   numbers_are : vs ≡ v ∷ more_numbers
   rest_says : Says more_numbers ts
 
-first_said : (n : Number) (place : ℕ) {vs : List ℤ} {ts : List Token} → Says vs (said place n ∷ ts) → First n vs ts
+first_said : (n : Option ℤ) (place : ℕ) {vs : List ℤ} {ts : List Token} → Says vs (said place n ∷ ts) → First n vs ts
 unfolding said
-first_said (Is v) place (followed {vs = vs} s) = record { v = v; more_numbers = vs; number_is = refl; numbers_are = refl; rest_says = s }
-first_said Not place x = elim x [ ]
+first_said (Some v) place (followed {vs = vs} s) = record { v = v; more_numbers = vs; number_is = refl; numbers_are = refl; rest_says = s }
+first_said None place x = elim x [ ]
 
-module _ (separates : ℕ → Bool) (says : List ℕ → Number) where
+module _ (separates : ℕ → Bool) (says : List ℕ → Option ℤ) where
   -- a run of bytes at the end of the text
   run_last : (place : ℕ) (run : List ℕ) {vs : List ℤ} → Says vs (closed separates says place run []) → Holds separates says vs (run ++ [])
   unfolding closed
@@ -84,16 +83,16 @@ clear_of [] h = none
 clear_of (b ∷ l) h = more (h zero (omega arith)) (clear_of l (λ k lt. h (suc k) (omega arith)))
 
 -- no byte of a number is a separator
-pub clear_number : (token : List ℕ) {v : ℤ} → number_of token ≡ Is v → Clear token
+pub clear_number : (token : List ℕ) {v : ℤ} → number_of token ≡ Some v → Clear token
 unfolding is_separator
 clear_number token e = clear_of token (every_byte (λ b. is_separator b ≡ false) refl digit_no_separator token e)
 
 -- a run that is a number is one token
-closed_number : (place : ℕ) (run : List ℕ) {v : ℤ} (rest : List Token) → number_of run ≡ Is v → closed is_separator number_of (place + length run) run rest ≡ number place v ∷ rest
+closed_number : (place : ℕ) (run : List ℕ) {v : ℤ} (rest : List Token) → number_of run ≡ Some v → closed is_separator number_of (place + length run) run rest ≡ number place v ∷ rest
 unfolding said
 closed_number place run rest e = closed_is place run rest (some_of_number run e) ∙ rw e
 
-module _ (place : ℕ) (token : List ℕ) {v : ℤ} (e : number_of token ≡ Is v) where
+module _ (place : ℕ) (token : List ℕ) {v : ℤ} (e : number_of token ≡ Some v) where
   token_last : tokens_from place [] token ≡ number place v ∷ []
   unfolding tokens_by
   token_last =

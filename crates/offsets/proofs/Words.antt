@@ -4,7 +4,7 @@
 --     Clear, run_takes, closed_is    bytes that are no separators go into the run, and make one token where it is closed
 --     TokenAt, token_at              where a byte stands that is no separator, a token begins: its bytes, and the tokens after it
 --     finds_number, finds_other, finds_none          what is read at its first byte tells what it says
---     first_none, first_number, first_other, first_no_number      the first token from a place on
+--     none_ahead, byte_ahead         the first byte from a place on that is no separator, by how many separators stand before it
 -- Assumes nothing.
 use mathlib.Core.Path.{◌≡◌, refl, sym, ap, subst, ◌∙◌}
 use mathlib.Core.Bool.{Bool, true, false}
@@ -23,9 +23,7 @@ use Rattle.arithmetic.proofs.Parts.{drop_step}
 use Rattle.arithmetic.proofs.Tests.{never, by_test}
 use Rattle.numerals.specs.Number.{minus, number_of, is_digit}
 use Rattle.numerals.specs.Front.{digits_of, enough_digits, front, numeral_at}
-use Rattle.numerals.specs.declared.reading.Number.TheVariants.{Not}
-use Rattle.numerals.specs.declared.reading.Numeral.TheVariants.{Ends}
-use Rattle.numerals.specs.declared.reading.Numeral.TheVariants as Numeral
+use Rattle.numerals.specs.declared.reading.Numeral.{Numeral}
 use Rattle.std.specs.Prelude.{Some, None, not, cond}
 use Rattle.std.specs.List.{position, position_or_len}
 use Rattle.std.proofs.lemmas.Option.{none-some}
@@ -34,7 +32,7 @@ use Rattle.std.proofs.lemmas.List.Quantifiers.{position-Some}
 use Rattle.numerals.proofs.Fronts as Fronts
 use Rattle.numerals.proofs.Wholes.{digit_range}
 use Rattle.offsets.specs.Tokens.{Token, number, no_number, space, line_feed, tab, carriage_return, is_separator, said, closed, tokens_by, tokens_from}
-use Rattle.offsets.specs.Private.Steps.{tokens_at, ends_here, Begins, ByteAt}
+use Rattle.offsets.specs.Private.Steps.{tokens_at, ends_here, Begins, IsByte, ByteAt}
 
 -- ---- separators, and the end
 module _ (text : List ℕ) (i : ℕ) where
@@ -146,8 +144,8 @@ module _ (text : List ℕ) (at b : ℕ) (l : List ℕ) (d : drop at text ≡ b �
     tokens_are = opened ∙ taken ∙ run_ends (at + length here) here (parted l) ∙ shut;
   }
 
-pub token_at : (text : List ℕ) (at : ℕ) → at < length text → is_separator (get_or text at 0) ≡ false → TokenAt text at
-token_at text at h e = begun text at (get_or text at 0) (drop (at + 1) text) (drop_step text at 0 h) e
+pub token_at : (text : List ℕ) (at : ℕ) → IsByte text at → TokenAt text at
+token_at text at b = begun text at (get_or text at 0) (drop (at + 1) text) (drop_step text at 0 b.there) b.word
 
 -- ---- what is read at its first byte
 pub digit_no_separator : (b : ℕ) → is_digit b ≡ true → is_separator b ≡ false
@@ -218,7 +216,7 @@ parted_ends text place d (separated {b = b} {text = rest} e) =
 
 module _ (text : List ℕ) (at : ℕ) (t : TokenAt text at) where
   -- the number that is read ends where its token does, where no byte of a token follows it
-  same_end : (v : ℤ) (stop : ℕ) → numeral_at text at ≡ Ends v stop → ends_here text stop ≡ true → stop ≡ at + length t.token
+  same_end : (v : ℤ) (stop : ℕ) → numeral_at text at ≡ Some (record { value = v; stop = stop }) → ends_here text stop ≡ true → stop ≡ at + length t.token
   unfolding numeral_at
   same_end v stop e h =
       let f = front (drop at text) in
@@ -228,7 +226,7 @@ module _ (text : List ℕ) (at : ℕ) (t : TokenAt text at) where
       let token : f ≡ t.token = one_word (clear_front (drop at text)) (subst Parted (sym follows) (ends_parted text stop h)) t.word_is t.ends split in
       sym place ∙ ap (λ m. at + length m) token
 
-  pub finds_number : (v : ℤ) (stop : ℕ) → numeral_at text at ≡ Ends v stop → ends_here text stop ≡ true → tokens_at text at ≡ number at v ∷ tokens_at text stop
+  pub finds_number : (v : ℤ) (stop : ℕ) → numeral_at text at ≡ Some (record { value = v; stop = stop }) → ends_here text stop ≡ true → tokens_at text at ≡ number at v ∷ tokens_at text stop
   unfolding said
   finds_number v stop e h =
       let place = same_end v stop e h in
@@ -237,7 +235,7 @@ module _ (text : List ℕ) (at : ℕ) (t : TokenAt text at) where
   abbrev later : List Token
   later = tokens_at text (at + length t.token)
 
-  says_none : number_of t.token ≡ Not → Begins (no_number at) (tokens_at text at)
+  says_none : number_of t.token ≡ None → Begins (no_number at) (tokens_at text at)
   unfolding said
   says_none e = record { rest = later; is = t.tokens_are ∙ ap (λ n. said at n ∷ later) e }
 
@@ -247,12 +245,12 @@ module _ (text : List ℕ) (at : ℕ) (t : TokenAt text at) where
       (sym (drop-drop (length t.token) at text) ∙ ap (drop (length t.token)) t.stands ∙ drop_at t.token t.rest (length t.token) refl)
       t.ends
 
-  pub finds_other : (v : ℤ) (stop : ℕ) → numeral_at text at ≡ Ends v stop → ends_here text stop ≡ false → Begins (no_number at) (tokens_at text at)
+  pub finds_other : (v : ℤ) (stop : ℕ) → numeral_at text at ≡ Some (record { value = v; stop = stop }) → ends_here text stop ≡ false → Begins (no_number at) (tokens_at text at)
   finds_other v stop e h =
       says_none (Fronts.not_of_other text at t.token t.rest t.stands (no_digit t.ends) e
       (λ place. never (sym h ∙ ap (ends_here text) place ∙ ends_there)))
 
-  pub finds_none : numeral_at text at ≡ Numeral.None → Begins (no_number at) (tokens_at text at)
+  pub finds_none : numeral_at text at ≡ None → Begins (no_number at) (tokens_at text at)
   finds_none e = says_none (Fronts.not_of_none text at t.token t.rest t.stands (no_digit t.ends) e)
 
 -- ---- the first token from a place on
@@ -299,19 +297,5 @@ module _ (text : List ℕ) (from : ℕ) where
       let p = position-Some other ahead k 0 e in
       record {
         same = passed text from k (omega arith) (λ j l. no_other (is_separator (get_or ahead j 0)) (p.2 j l));
-        there = omega (arith, length-drop from text, p.0);
-        word = rw get_or-drop at (an_other (is_separator (get_or ahead k 0)) p.1);
+        byte = record { there = omega (arith, length-drop from text, p.0); word = rw get_or-drop at (an_other (is_separator (get_or ahead k 0)) p.1) };
       }
-
-module _ (text : List ℕ) (from at : ℕ) (f : ByteAt text from at) where
-  abbrev here_is : TokenAt text at
-  here_is = token_at text at f.there f.word
-
-  pub first_number : (v : ℤ) (stop : ℕ) → numeral_at text at ≡ Ends v stop → ends_here text stop ≡ true → tokens_at text from ≡ number at v ∷ tokens_at text stop
-  first_number v stop e k = sym f.same ∙ finds_number text at here_is v stop e k
-
-  pub first_other : (v : ℤ) (stop : ℕ) → numeral_at text at ≡ Ends v stop → ends_here text stop ≡ false → Begins (no_number at) (tokens_at text from)
-  first_other v stop e k = rw (← f.same) (finds_other text at here_is v stop e k)
-
-  pub first_no_number : numeral_at text at ≡ Numeral.None → Begins (no_number at) (tokens_at text from)
-  first_no_number e = rw (← f.same) (finds_none text at here_is e)

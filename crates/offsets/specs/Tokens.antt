@@ -1,10 +1,8 @@
 -- A text as the list of its tokens. Separators are the space (32), the line feed (10), the tab (9) and the carriage return (13), "in any
 -- number, also first and last. A run of other bytes is one token and must be a number."
-use Rattle.std.specs.Prelude.{ℕ, ◌+◌, ◌-◌, Bool, ◌||◌, List, [], ◌∷◌, ◌++◌, eqb, ℤ, length}
+use Rattle.std.specs.Prelude.{ℕ, ◌+◌, ◌-◌, Bool, ◌||◌, List, [], ◌∷◌, ◌++◌, eqb, ℤ, length, Option, Some, None}
 use Rattle.arithmetic.specs.Choice.{when◌then◌else◌}
 use Rattle.numerals.specs.Number.{number_of}
-use Rattle.numerals.specs.declared.reading.Number.{Number}
-use Rattle.numerals.specs.declared.reading.Number.TheVariants.{Is, Not}
 
 abbrev pub space : ℕ
 space = 32
@@ -30,12 +28,12 @@ abbrev pub place_of : Token → ℕ
 place_of (number place v) = place
 place_of (no_number place) = place
 
-unfoldable pub said : ℕ → Number → Token
-said place (Is v) = number place v
-said place Not = no_number place
+unfoldable pub said : ℕ → Option ℤ → Token
+said place (Some v) = number place v
+said place None = no_number place
 
 -- whichever bytes separate, and whatever a run of other bytes says
-module _ (separates : ℕ → Bool) (says : List ℕ → Number) where
+module _ (separates : ℕ → Bool) (says : List ℕ → Option ℤ) where
   -- a run of bytes that ends before place `end` is a token, unless it is empty
   unfoldable pub closed : ℕ → List ℕ → List Token → List Token
   closed end [] rest = rest

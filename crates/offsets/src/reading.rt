@@ -18,6 +18,7 @@ pub(crate) struct Cursor<'a> {
 
 impl<'a> Cursor<'a> {
     // A number in a range; one out of it is refused for the reason.
+    #[inline]
     fn number(&mut self, bounds: Bounds, reason: Reason) -> Result<i64, Refusal>
         ensures { Step (one_by (number_of reason) (range_by bounds)) (λ v. v) self.old self.new result }
     {
@@ -45,6 +46,7 @@ impl<'a> Cursor<'a> {
     }
 
     // The numbers of a table of records.
+    #[inline(never)]
     fn numbers(&mut self, kind: Record, table: &mut [i64]) -> Result<(), Refusal>
         ensures { Step (numbers_by (section_of kind) (length table.old)) (λ ok. table.new) self.old self.new result }
     {

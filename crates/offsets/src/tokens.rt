@@ -2,14 +2,9 @@
 ghost use Rattle.std.specs.Prelude.{◌≡◌, length, not};
 ghost use Rattle.std.specs.List.{position};
 ghost use Rattle.offsets.specs.Tokens.{is_separator};
-ghost use Rattle.offsets.specs.Private.Steps.{Finds, tokens_at, ends_here, place_after, FirstByte};
+ghost use Rattle.offsets.specs.Private.Steps.{Finds, FindsAt, tokens_at, ends_here, place_after, IsByte, FirstByte};
 
-// A number that stands in a text, and the place after it.
-#[derive(Clone, Copy)]
-pub(crate) struct Numeral {
-    pub value: i64,
-    pub stop: usize,
-}
+use numerals::Numeral;
 
 // What stands next in a text: the place of a token's first byte, and the number that it is, if it is one.
 #[derive(Clone, Copy)]
@@ -19,17 +14,22 @@ pub(crate) struct Found {
 }
 
 // The first token from a place on that stands in no token.
+#[inline]
 pub(crate) fn next_token(text: &[u8], from: usize) -> Option<Found>
     ensures { Finds text.now (tokens_at text.now from) result }
 {
     let at = first_byte(text, from)?;
-    match numerals::numeral_at(text, at) {
-        numerals::Numeral::Ends { value, stop } if ends_here(text, stop) => Some(Found {
-            at,
-            number: Some(Numeral { value, stop }),
-        }),
-        _ => Some(Found { at, number: None }),
-    }
+    let number = number_at(text, at);
+    Some(Found { at, number })
+}
+
+// The number that the token at a place is, if it is one.
+fn number_at(text: &[u8], at: usize) -> Option<Numeral>
+    requires { IsByte text.now at }
+    ensures { FindsAt text.now (tokens_at text.now at) at result }
+{
+    let numeral = numerals::numeral_at(text, at)?;
+    if ends_here(text, numeral.stop) { Some(numeral) } else { None }
 }
 
 // The place of the token after `count` numbers from a place on.

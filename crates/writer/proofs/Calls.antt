@@ -9,15 +9,15 @@ use Prim.Native.Nat.{ℕ, ◌≤◌}
 use lib.IntN.{ℤ, pos, nat_abs}
 use lib.ListN.{length, take, drop}
 use lib.Seq.{take_at}
+use Rattle.std.specs.Prelude.{Result, Ok}
 use Rattle.ranges.specs.Outcome.{Outcome, answered, refused, answer_with, left_with}
 use Rattle.ranges.specs.Outside.{particulars_of}
 use Rattle.ranges.specs.declared.Particulars.{Particulars}
-use Rattle.ranges.proofs.Outcomes.{refused_not}
+use Rattle.ranges.specs.declared.refusal.Refusal.{Refusal}
+use Rattle.ranges.proofs.Outcomes.{refused_not, paper_ok}
 use Rattle.offsets.specs.Back.{RoomForAnyFile, ReadBack, summary_with}
 use Rattle.offsets.specs.File.{Contents}
 use Rattle.offsets.specs.Reader.{Reads, summary_of}
-use Rattle.offsets.specs.declared.Read.{Read}
-use Rattle.offsets.specs.declared.Read.TheVariants.{Sheet}
 use Rattle.offsets.specs.declared.Summary.{Summary}
 use Rattle.offsets.proofs.Answers.{on_file}
 use Rattle.offsets.proofs.Sound.{Sound}
@@ -25,10 +25,7 @@ use Rattle.offsets.proofs.WasRead.{reads_contents, half_breadths_read, items_rea
 use Rattle.writer.specs.Longest.{longest_text}
 use Rattle.writer.specs.Written.{text_of}
 use Rattle.writer.specs.Writer.{Writes, writer_of, length_of, room_after}
-use Rattle.writer.specs.declared.Written.{Written}
-use Rattle.writer.specs.declared.Written.TheVariants.{Wrote}
 use Rattle.writer.proofs.RoundTrip.{contents_of, written_is_read, read_is_written}
-use Rattle.writer.proofs.Unique.{written_paper_injective}
 
 -- ---- from the writer to the reader
 -- the text that a writer which answered a length left in front of its room
@@ -45,15 +42,15 @@ module _ {p : Particulars} {h : List ℕ} {i t : List ℤ} {room room_left : Lis
       record { text = text; written = e; stands = rw l (take_at text (drop (length text) room) count long) }
   text_of_outcome (refused why place) e n l = refused_not (sym n)
 
-  text_of_writes : Writes p h i t room room_left (Wrote count) → Text p h i t room room_left count
+  text_of_writes : Writes p h i t room room_left (Ok count) → Text p h i t room room_left count
   text_of_writes w = text_of_outcome (writer_of p h i t (length room)) refl w.answer_is w.left
 
 sizes_again : (h : List ℕ) → map nat_abs (map pos h) ≡ h
 sizes_again [] = refl
 sizes_again (y ∷ h) = ap (λ l. y ∷ l) (sizes_again h)
 
-pub write_then_read : {p : Particulars} {h : List ℕ} {i t : List ℤ} {room room_left : List ℕ} {count : ℕ} {h₀ h' : List ℕ} {i₀ i' t₀ t' : List ℤ} {answer : Read}
-    → Writes p h i t room room_left (Wrote count) → RoomForAnyFile h₀ i₀ t₀ → Reads (take count room_left) h₀ h' i₀ i' t₀ t' answer
+pub write_then_read : {p : Particulars} {h : List ℕ} {i t : List ℤ} {room room_left : List ℕ} {count : ℕ} {h₀ h' : List ℕ} {i₀ i' t₀ t' : List ℤ} {answer : Result Summary Refusal}
+    → Writes p h i t room room_left (Ok count) → RoomForAnyFile h₀ i₀ t₀ → Reads (take count room_left) h₀ h' i₀ i' t₀ t' answer
     → ReadBack (summary_with p i t) h i t h₀ h' i₀ i' t₀ t' answer
 write_then_read {p} {h} {i} {t} {room} {h₀ = h₀} {i₀ = i₀} {t₀ = t₀} w rooms r =
     let x = text_of_writes w in
@@ -62,23 +59,23 @@ write_then_read {p} {h} {i} {t} {room} {h₀ = h₀} {i₀ = i₀} {t₀ = t₀}
     rw (sizes_again h) at (reads_contents (contents_of p h i t) (opened ∙ back.1) (rw x.stands at r))
 
 -- ---- from the reader to the writer
-pub record WrittenAgain (summary : Summary) (h : List ℕ) (i t : List ℤ) (room_left : List ℕ) (answer : Written) : Type 0 where
+pub record WrittenAgain (summary : Summary) (h : List ℕ) (i t : List ℤ) (room_left : List ℕ) (answer : Result ℕ Refusal) : Type 0 where
   pub count : ℕ
-  pub answer_is : answer ≡ Wrote count
-  pub read_back : {h₀ h' : List ℕ} {i₀ i' t₀ t' : List ℤ} {answer : Read} → RoomForAnyFile h₀ i₀ t₀ → Reads (take count room_left) h₀ h' i₀ i' t₀ t' answer → ReadBack summary h i t h₀ h' i₀ i' t₀ t' answer
+  pub answer_is : answer ≡ Ok count
+  pub read_back : {h₀ h' : List ℕ} {i₀ i' t₀ t' : List ℤ} {answer : Result Summary Refusal} → RoomForAnyFile h₀ i₀ t₀ → Reads (take count room_left) h₀ h' i₀ i' t₀ t' answer → ReadBack summary h i t h₀ h' i₀ i' t₀ t' answer
 
 -- what was read, written from tables that hold just that
-rewritten : (c : Contents) → Sound c → {room room_left : List ℕ} {answer : Written}
+rewritten : (c : Contents) → Sound c → {room room_left : List ℕ} {answer : Result ℕ Refusal}
     → Writes (particulars_of c.hull) (map nat_abs c.half_breadths) c.items c.tanks room room_left answer → longest_text ≤ length room
     → WrittenAgain (summary_of c) (map nat_abs c.half_breadths) c.items c.tanks room_left answer
 unfolding answer_with
 rewritten c s {room} {answer = answer} w l =
     let text = text_of (particulars_of c.hull) (map nat_abs c.half_breadths) c.items c.tanks in
-    let e : answer ≡ Wrote (length text) = written_paper_injective answer (Wrote (length text)) (w.answer_is ∙ ap length_of (read_is_written c s (length room) l)) in
+    let e : answer ≡ Ok (length text) = paper_ok (w.answer_is ∙ ap length_of (read_is_written c s (length room) l)) in
     record { count = length text; answer_is = e; read_back = λ rooms r. write_then_read (rw e at w) rooms r }
 
-pub read_then_write : {text h₀ h' : List ℕ} {i₀ i' t₀ t' : List ℤ} {summary : Summary} {room room_left : List ℕ} {answer : Written}
-    → Reads text h₀ h' i₀ i' t₀ t' (Sheet summary) → longest_text ≤ length room
+pub read_then_write : {text h₀ h' : List ℕ} {i₀ i' t₀ t' : List ℤ} {summary : Summary} {room room_left : List ℕ} {answer : Result ℕ Refusal}
+    → Reads text h₀ h' i₀ i' t₀ t' (Ok summary) → longest_text ≤ length room
     → Writes summary.particulars (half_breadths_read summary h') (items_read summary i') (tanks_read summary t') room room_left answer
     → WrittenAgain summary (half_breadths_read summary h') (items_read summary i') (tanks_read summary t') room_left answer
 read_then_write r l w =

@@ -7,5 +7,6 @@ pub mod Unique
 pub mod Calls
 pub mod Longer
 pub mod Put
-pub mod WholeText
+pub mod Tables
+pub mod Writing
 pub mod Numbered

@@ -2,7 +2,7 @@
 --     contents_of                the contents of a file of these particulars and tables
 --     passes_sound, sound_passes     tables that pass the writer's tests are sound contents, and the other way
 --     text_spells               the text of a file spells its numbers
---     length_of_text            it is never longer than its numbers at their longest
+--     length_of_text, length_of_passed     it is never longer than its numbers at their longest
 --     passes_answered           room for that is never too short
 --     written_is_read           what the writer answers is read as what was written
 -- Assumes nothing.
@@ -125,9 +125,12 @@ module _ (p : Particulars) (h : List ℕ) (i t : List ℤ) (s : Sound (contents_
   pub text_is_read : file (length (text_of p h i t)) (tokens (text_of p h i t)) ≡ answered (contents_of p h i t)
   text_is_read = held_is_read (text_of p h i t) (contents_of p h i t) s (spells_holds text_spells)
 
+pub length_of_passed : {p : Particulars} {h : List ℕ} {i t : List ℤ} → Passes p h i t → length (text_of p h i t) ≤ longest_text
+length_of_passed {p} {h} {i} {t} o = length_of_text p h i t (passes_sound p h i t o)
+
 -- room for the longest text is never too short
 pub passes_answered : (p : Particulars) (h : List ℕ) (i t : List ℤ) → Passes p h i t → (room : ℕ) → longest_text ≤ room → writer_of p h i t room ≡ answered (text_of p h i t)
-passes_answered p h i t o room l = answers p h i t room o (omega (arith, length_of_text p h i t (passes_sound p h i t o)))
+passes_answered p h i t o room l = answers p h i t room o (omega (arith, length_of_passed o))
 
 -- what the writer answers is read as what was written
 pub written_is_read : (p : Particulars) (h : List ℕ) (i t : List ℤ) (room : ℕ) {text : List ℕ} → writer_of p h i t room ≡ answered text
@@ -135,7 +138,7 @@ pub written_is_read : (p : Particulars) (h : List ℕ) (i t : List ℤ) (room : 
 written_is_read p h i t room e =
     let a = answered_passes p h i t room e in
     let s = passes_sound p h i t a.passes in
-    rw a.text_is (omega (arith, length_of_text p h i t s, longest_is), text_is_read p h i t s)
+    rw a.text_is (omega (arith, length_of_passed a.passes, longest_is), text_is_read p h i t s)
 
 -- ---- what was read can be written
 half_breadths_again : (k : ℕ) {vs : List ℤ} → InRanges (records k half_breadth) vs → map pos (map nat_abs vs) ≡ vs

@@ -1,2 +1,3 @@
 -- Words of private contracts: no public promise is made in them.
 pub mod Putting
+pub mod Files

@@ -1,16 +1,16 @@
 -- What the writer promises of particulars, three tables and lent room.
-use Rattle.std.specs.Prelude.{ℕ, ◌+◌, ◌≡◌, not, List, map, ltb, eqb, ℤ, pos, length}
+use Rattle.std.specs.Prelude.{ℕ, ◌+◌, ◌≡◌, Result, not, List, map, ltb, eqb, ℤ, pos, length}
 use Rattle.arithmetic.specs.Choice.{when◌then◌else◌}
 use Rattle.ranges.specs.Fields.{particulars, half_breadth, item, tank}
 use Rattle.ranges.specs.Limits.{Limits, limits}
 use Rattle.ranges.specs.Outcome.{Outcome, answered, refused, answer_with, left_with}
 use Rattle.ranges.specs.Outside.{first_outside, bad_particular_by}
+use Rattle.ranges.specs.Reasons.{paper}
 use Rattle.ranges.specs.Refusals.{out_of_range, wrong_size, room_too_short, place_of_half_breadths, place_of_items, place_of_tanks, half_breadth_table, item_table, tank_table}
 use Rattle.ranges.specs.Sizes.{points_of, whole_records, item_width, tank_width, most_items, most_tanks}
 use Rattle.ranges.specs.declared.Particulars.{Particulars}
+use Rattle.ranges.specs.declared.refusal.Refusal.{Refusal}
 use Rattle.writer.specs.Written.{text_of}
-use Rattle.writer.specs.declared.Written.{Written}
-use Rattle.writer.specs.declared.Written.TheVariants.{Wrote, Refused}
 
 -- "Writer: particulars, 7 (sizes must be exact; items and tanks whole records, at most 32 and 16), half-breadths, items, tanks, 14", by the length of the room
 unfoldable pub writer_by : Limits → Particulars → List ℕ → List ℤ → List ℤ → ℕ → Outcome (List ℕ)
@@ -33,11 +33,7 @@ writer_by allowed p half_breadths items tanks room =
 abbrev pub writer_of : Particulars → List ℕ → List ℤ → List ℤ → ℕ → Outcome (List ℕ)
 writer_of = writer_by limits
 
--- the paper's number and values for each answer: "It answers the length."
-abbrev pub paper : Written → Outcome ℕ
-paper (Wrote count) = answered count
-paper (Refused r) = refused r.number r.place
-
+-- "It answers the length."
 abbrev pub length_of : Outcome (List ℕ) → Outcome ℕ
 length_of = answer_with length
 
@@ -45,6 +41,6 @@ length_of = answer_with length
 abbrev pub room_after : Outcome (List ℕ) → List ℕ → List ℕ
 room_after = left_with (λ text. text)
 
-pub record Writes (p : Particulars) (half_breadths : List ℕ) (items tanks : List ℤ) (room room_left : List ℕ) (answer : Written) : Type 0 where
+pub record Writes (p : Particulars) (half_breadths : List ℕ) (items tanks : List ℤ) (room room_left : List ℕ) (answer : Result ℕ Refusal) : Type 0 where
   pub answer_is : paper answer ≡ length_of (writer_of p half_breadths items tanks (length room))
   pub left : room_left ≡ room_after (writer_of p half_breadths items tanks (length room)) room

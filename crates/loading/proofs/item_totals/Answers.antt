@@ -1,13 +1,11 @@
 -- The size, the ranges, and then the sums. Assumes nothing.
 use mathlib.Core.Path.{◌≡◌, sym, ap, ◌∙◌}
 use mathlib.Core.Bool.{true}
-use native.Mathlib.Omega.{arith}
 use lib.ListN.{length}
 use Rattle.std.proofs.lemmas.Result.{err_from_is_err_and}
 use Rattle.ranges.specs.Outcome.{answered}
 use Rattle.ranges.specs.Sizes.{whole_records, item_width, most_items}
 use Rattle.loading.proofs.Itemised.{items_few, items_fitting, ranges_kept, is_wrong_size, totals_refused, totals_made, totals_are}
-use Rattle.loading.proofs.Reaches.{reach_less}
 use Rattle.loading.proofs.item_totals.Goals as goal
 use Rattle.loading.proofs.item_totals.Goals.{Else-not-items_fit}
 
@@ -28,9 +26,6 @@ returns-in_err-try_ranges c =
 pub items_aboard-requires : goal.items_aboard-requires
 items_aboard-requires c =
     let items = c.args.items.now in items_fitting items (whole (goal.at.items_aboard-requires c).Else-not-items_fit) (ranges_kept items c.in_ok-try_ranges.ensures)
-
-pub totals_of-requires : goal.totals_of-requires
-totals_of-requires c = reach_less c.items_aboard.ensures.reach (omega arith) (omega arith)
 
 pub returns : goal.returns
 returns c =

@@ -1,20 +1,8 @@
 -- A tank's refusal is passed on; else what items and tanks bring goes against the rows. Assumes nothing.
 use mathlib.Core.Path.{◌∙◌}
-use native.Mathlib.Omega.{arith}
 use Rattle.std.proofs.lemmas.Result.{err_from_is_err_and}
 use Rattle.loading.proofs.Order.{after_refused, after_passed}
-use Rattle.loading.proofs.Reaches.{reach_less, reach_with}
 use Rattle.loading.proofs.loaded.Goals as goal
-
-pub add-requires : goal.add-requires
-add-requires c = (
-  reach_less c.items_aboard.ensures.reach (omega arith) (omega arith),
-  reach_less c.in_ok-in_tanks.ensures.reach (omega arith) (omega arith),
-)
-
-pub laden-requires : goal.laden-requires
-laden-requires c =
-    rw c.add.ensures (reach_with c.items_aboard.ensures.reach c.in_ok-in_tanks.ensures.reach)
 
 pub returns-in_err-in_tanks : goal.returns-in_err-in_tanks
 returns-in_err-in_tanks c =

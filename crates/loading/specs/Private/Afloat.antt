@@ -1,8 +1,10 @@
 -- A usable table of rows in the lent list, and where a weight within it floats: the words of private contracts.
-use Rattle.std.specs.Prelude.{ℕ, ◌+◌, ◌*◌, ◌-◌, ◌/◌, ◌≤◌, ◌<◌, ◌≡◌, Bool, true, false, not, List, Option, Some, None, length}
+use Rattle.std.specs.Prelude.{ℕ, ◌+◌, ◌*◌, ◌-◌, ◌/◌, ◌≤◌, ◌<◌, ◌≡◌, Bool, true, false, not, ◌&&◌, ◌||◌, eqb, ltb, pos, List, Option, Some, None, length}
 use Rattle.arithmetic.specs.Choice.{when◌then◌else◌}
-use Rattle.ranges.specs.Fields.{most, highest_metacentre}
+use Rattle.ranges.specs.Fields.{most, within, range_of, highest_metacentre}
 use Rattle.ranges.specs.Private.InRange.{row_range}
+use Rattle.hydrostatics.specs.Row.{waterline_of}
+use Rattle.hydrostatics.specs.declared.Row.{Row}
 use Rattle.hydrostatics.specs.Usable.{row_in, usable_up_to}
 use Rattle.ranges.specs.Outcome.{Outcome, answered, refused, and_then}
 use Rattle.ranges.specs.Refusals.{rows_not_usable, wrong_size, row_table}
@@ -38,10 +40,16 @@ abbrev pub is_answered : {A : Type 0} → Outcome A → Bool
 is_answered (answered a) = true
 is_answered (refused number place) = false
 
--- row r stands in the list whole, and is one of no more than there may be
-pub record RowThere (rows : List ℕ) (r : ℕ) : Type 0 where
-  pub few : r < most_rows
-  pub whole : row_width * r + row_width ≤ length rows
+-- the tests of a row, by the first row and the row before it
+abbrev pub spaced_from : Row → Row → ℕ → Bool
+spaced_from first row r =
+    eqb (2 * (first.draft / 2)) first.draft && within (range_of 3) (pos (first.draft / 2)) && eqb row.draft (waterline_of r * (first.draft / 2))
+
+abbrev pub rises_from : Row → Row → ℕ → Bool
+rises_from before row r = eqb r 0 || ltb before.displacement row.displacement
+
+abbrev pub fits_metacentre : Row → Bool
+fits_metacentre row = eqb (row.kb + row.bm) row.km || eqb (row.kb + row.bm + 1) row.km
 
 -- the first row that is not usable, if there is one
 abbrev pub usable_but_for : ℕ → Option ℕ → Outcome ℕ

@@ -13,7 +13,7 @@ use Rattle.offsets.specs.Reading.{Reading, one, numbers, count}
 use Rattle.offsets.specs.Tokens.{Token, number, no_number, place_of, is_separator, tokens_from, tokens}
 use Rattle.offsets.specs.declared.Summary.{Summary}
 use Rattle.offsets.specs.declared.tokens.Found.{Found}
-use Rattle.offsets.specs.declared.tokens.Numeral.{Numeral}
+use Rattle.numerals.specs.declared.reading.Numeral.{Numeral}
 use Rattle.offsets.specs.declared.reading.Cursor.{Cursor}
 
 -- the tokens from a place on that stands in no token
@@ -38,11 +38,15 @@ abbrev pub Finds : List ℕ → List Token → Option Found → Type 0
 Finds text tokens None = tokens ≡ []
 Finds text tokens (Some found) = FindsAt text tokens found.at found.number
 
--- the place of the first byte that is no separator
-pub record ByteAt (text : List ℕ) (from at : ℕ) : Type 0 where
-  pub same : tokens_at text at ≡ tokens_at text from
+-- a byte stands at a place that is no separator
+pub record IsByte (text : List ℕ) (at : ℕ) : Type 0 where
   pub there : at < length text
   pub word : is_separator (get_or text at 0) ≡ false
+
+-- the first such byte from a place on
+pub record ByteAt (text : List ℕ) (from at : ℕ) : Type 0 where
+  pub same : tokens_at text at ≡ tokens_at text from
+  pub byte : IsByte text at
 
 abbrev pub FirstByte : List ℕ → ℕ → Option ℕ → Type 0
 FirstByte text from (Some at) = ByteAt text from at

@@ -3,7 +3,7 @@ use mathlib.Core.Path.{◌≡◌, ◌∙◌}
 use Prim.Native.Nat.{◌+◌}
 use Rattle.arithmetic.proofs.Crossing.{back, back_is}
 use Rattle.loading.specs.Private.Steady.{gm_of, transverse_of}
-use Rattle.loading.proofs.Made.{moderate, made}
+use Rattle.loading.proofs.Made.{made}
 use Rattle.loading.proofs.Condition.new.Goals as goal
 use Rattle.loading.proofs.Condition.new.Goals.{After-gm_of-gm, After-less-transverse_moment}
 
@@ -12,9 +12,6 @@ gm_is c = back_is (record { sfits = c.gm_of-gm.type_inv }) ∙ c.gm_of-gm.ensure
 
 moment_is : (c : After-less-transverse_moment) → back c.less-transverse_moment.result ≡ transverse_of c.args.all
 moment_is c = back_is (record { sfits = c.less-transverse_moment.type_inv }) ∙ c.less-transverse_moment.ensures
-
-pub heel_of-heel-requires : goal.heel_of-heel-requires
-heel_of-heel-requires c = moderate c.requires (gm_is (goal.at.heel_of-heel-requires c).After-gm_of-gm) (moment_is c)
 
 pub returns : goal.returns
 returns c =

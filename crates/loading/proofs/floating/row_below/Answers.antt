@@ -1,5 +1,5 @@
 -- The walk up the rows while the next is not above the weight. Assumes nothing.
-use mathlib.Core.Path.{◌≡◌, refl, ◌∙◌}
+use mathlib.Core.Path.{◌≡◌, ◌∙◌}
 use Prim.Native.Nat.{◌+◌, ◌-◌, ◌≤◌}
 use native.Mathlib.Omega.{arith}
 use Rattle.hydrostatics.specs.Usable.{row_in}
@@ -10,22 +10,6 @@ use Rattle.loading.proofs.floating.row_below.Goals as goal
 
 pub overflow_sub-last : goal.overflow_sub-last
 overflow_sub-last c = omega (arith, c.count-last.ensures, (lent_usable c.args.rows.numbers.now c.args.rows.usable).size.least)
-
-pub loop-r-init : goal.loop-r-init
-loop-r-init c = (c.requires, refl)
-
-pub displacement-requires : goal.displacement-requires
-displacement-requires c = omega (arith, c.count-last.ensures)
-
-pub returns-then-weight-displacement : goal.returns-then-weight-displacement
-returns-then-weight-displacement c =
-    let l = c.loop-r in
-    record {
-      there = omega (arith, c.count-last.ensures);
-      not_above = l.invariant.0;
-      next_above = λ h. omega (arith, c.displacement.ensures, c.if-weight-displacement.true);
-      falls = l.invariant.1;
-    }
 
 pub loop-r-preserved : goal.loop-r-preserved
 loop-r-preserved c =

@@ -1,13 +1,7 @@
 -- The quotient is no more than the moment, so that 64 bits hold the difference. Assumes nothing.
-use mathlib.Core.Path.{ap, ◌∙◌}
 use native.Mathlib.Omega.{arith}
-use lib.IntN.{pos, ◌-ℤ◌}
-use Rattle.arithmetic.proofs.Crossing.{back_is}
 use Rattle.arithmetic.proofs.Rounding.{up_of, up_le}
 use Rattle.loading.proofs.stability.gm_of.Goals as goal
 
 pub less-requires : goal.less-requires
 less-requires c = (omega arith, omega (arith, c.rounded_up.ensures, up_le (up_of c.args.moment c.args.weight (omega arith))))
-
-pub returns : goal.returns
-returns c = back_is (record { sfits = c.less.type_inv }) ∙ c.less.ensures ∙ ap (λ n. pos c.args.km -ℤ pos n) c.rounded_up.ensures

@@ -1,5 +1,5 @@
 -- The walk over the rows: all before row r are usable. Assumes nothing.
-use mathlib.Core.Path.{◌≡◌, sym, ◌∙◌}
+use mathlib.Core.Path.{sym, ◌∙◌}
 use native.Mathlib.Omega.{arith}
 use Rattle.loading.specs.Private.Afloat.{count_of}
 use Rattle.loading.proofs.Trying.{rows_none, rows_on, rows_bad, lent_whole}
@@ -10,7 +10,7 @@ loop-r-init c = rows_none c.args.numbers.now
 
 pub is_usable-requires : goal.is_usable-requires
 is_usable-requires c =
-    let whole = lent_whole c.args.numbers.now c.requires in record { few = omega (arith, whole.most); whole = omega (arith, whole.whole) }
+    let whole = lent_whole c.args.numbers.now c.requires in (omega (arith, whole.most), omega (arith, whole.whole))
 
 pub returns-then-not-is_usable : goal.returns-then-not-is_usable
 returns-then-not-is_usable c =
@@ -19,8 +19,3 @@ returns-then-not-is_usable c =
 
 pub loop-r-preserved : goal.loop-r-preserved
 loop-r-preserved c = rows_on c.args.numbers.now c.loop-r.r c.loop-r.invariant (sym c.is_usable.ensures ∙ c.if-not-is_usable.false)
-
-pub returns : goal.returns
-returns c =
-    let all : c.loop-r.r ≡ count_of c.args.numbers.now = omega arith in
-    sym (rw all at c.loop-r.invariant)

@@ -7,7 +7,7 @@ use Rattle.std.specs.Prelude.{Option, Some, None}
 use Rattle.offsets.specs.Private.Steps.{tokens_at, Finds, FindsAt, place_after}
 use Rattle.offsets.specs.Tokens.{Token}
 use Rattle.offsets.specs.declared.tokens.Found.{Found}
-use Rattle.offsets.specs.declared.tokens.Numeral.{Numeral}
+use Rattle.numerals.specs.declared.reading.Numeral.{Numeral}
 use Rattle.offsets.proofs.tokens.place_after.Goals as goal
 
 -- one number more is passed
