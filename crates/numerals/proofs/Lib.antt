@@ -8,3 +8,4 @@ pub mod Fronts
 pub mod Taken
 pub mod Said
 pub mod Prints
+pub mod Pieces

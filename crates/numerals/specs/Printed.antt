@@ -18,6 +18,10 @@ unfoldable pub printed : ℤ → List ℕ
 printed (pos n) = decimal n
 printed (negsuc n) = minus ∷ decimal (suc n)
 
+-- the most bytes that a number of 64 bits takes: a minus and twenty digits
+abbrev pub most_printed : ℕ
+most_printed = 21
+
 -- What a call that prints v into lent room leaves and answers: the length of the text, and the text in the room where it fits.
 pub record Prints (v : ℤ) (room room_after : List ℕ) (r : ℕ) : Type 0 where
   pub length_is : r ≡ length (printed v)
