@@ -1,6 +1,6 @@
 -- A list of a fixed length that is filled from its front, one store a turn.
 --     Filling                            its length, and what it holds after the first i stores
---     filling_none, filling_more         before the first store; one store more, in the code's `i + 1`
+--     filling_more                       one store more, in the code's `i + 1`
 --     filling_all                        after the last
 --     filled_front                       and the part that is filled alone
 -- Assumes nothing.
@@ -8,7 +8,7 @@ use mathlib.Core.Path.{◌≡◌, subst, ◌∙◌}
 use mathlib.Core.List.{List}
 use Prim.Native.Nat.{ℕ, ◌+◌, ◌<◌}
 use native.Mathlib.Omega.{arith}
-use borrow.Author.Count.{below_none, below_more}
+use borrow.Author.Count.{below_more}
 use lib.ListN.{length, get_or, take, set, length-set}
 use lib.Seq.{get_or-take, get_or-set_same, get_or-set_other}
 use Rattle.hydrostatics.specs.Private.Hull.{Filled}
@@ -18,9 +18,6 @@ pub record Filling {A : Type 0} (none : A) (f : ℕ → A) (room i : ℕ) (l : L
   pub so_far : Filled none f i l
 
 module _ {A : Type 0} {none : A} {f : ℕ → A} {room : ℕ} {l : List A} where
-  pub filling_none : length l ≡ room → Filling none f room 0 l
-  filling_none e = record { long = e; so_far = record { at = below_none (λ k. get_or l k none ≡ f k) } }
-
   module _ {i : ℕ} (so : Filling none f room i l) where
     pub filling_more : i < room → {v : A} → v ≡ f i → Filling none f room (i + 1) (set l i v)
     filling_more h {v} e = record {

@@ -3,12 +3,11 @@
 --     Kept                   what each waterline contributes, at its number
 --     kept_small             how large what is kept is
 --     sums_are               what is made of it up to a waterline is the row's five
---     small_up_to            what is small is so up to a waterline
 --     kept_sums              the sums of every row
 -- Assumes nothing.
 use mathlib.Core.Path.{◌≡◌, sym, ap, ◌∙◌}
 use mathlib.Core.List.{List}
-use Prim.Native.Nat.{ℕ, ◌+◌, ◌-◌, ◌*◌, ◌≤◌, ◌<◌}
+use Prim.Native.Nat.{ℕ, ◌+◌, ◌-◌, ◌*◌, ◌≤◌}
 use native.Mathlib.Omega.{arith}
 use lib.ListN.{length}
 use lib.Seq.{length-take-le, get_or-take}
@@ -65,13 +64,3 @@ module _ {table : List ℕ} {p : Particulars} {lines : List Waterline} (kept : K
 
   pub kept_sums : {sums : List Sums} → Filled no_sums (λ r. sums_from (up_to (waterline_of r) lines)) (length lines - waterline_of 0) sums → MakesSums table p sums
   kept_sums filled = record { each = record { at = λ r h. filled.at r (omega (arith, kept.long)) ∙ sums_are (omega arith) } }
-
-pub small_up_to : {lines : List Waterline} → Small lines → {k : ℕ} → k < length lines → Small (up_to k lines)
-small_up_to {lines} small {k} h =
-    let long : length (up_to k lines) ≡ k + 1 = length-take-le (k + 1) lines (omega arith) in
-    record {
-      some = omega (arith, long);
-      few = omega (arith, long, small.few);
-      q_most = λ j l. rw (get_or-take (k + 1) lines j no_waterline (omega (arith, long))) (small.q_most j (omega (arith, long)));
-      x_most = λ j l. rw (get_or-take (k + 1) lines j no_waterline (omega (arith, long))) (small.x_most j (omega (arith, long)));
-    }

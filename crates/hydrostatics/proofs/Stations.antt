@@ -1,8 +1,7 @@
 -- A station up to a waterline, as it stands in the table, and the row's sums along the stations.
 --     station_area, station_moment            the sums over the station's part of the table are its area and height moment
 --     station_summable, station_balanced      and can be made
---     station_long, station_last              how long the part is, and that its last half-breadth is that at the waterline
---     all_along                               what is filled in for each station
+--     station_last                            the last half-breadth of the part is that at the waterline
 --     Total                                   the sum over a curve of the stations, which 64 bits hold
 --     total_s, total_sz, total_sx, total_q, total_c       the row's five
 --     along_is, along_can                     so it is made of what is filled in
@@ -13,7 +12,7 @@ use mathlib.Core.List.{List}
 use Prim.Native.Nat.{ℕ, ◌+◌, ◌-◌, ◌*◌, ◌^◌, ◌≤◌, ◌<◌}
 use native.Mathlib.Omega.{arith}
 use lib.ListN.{length, get_or, take, drop, length-drop}
-use lib.Seq.{length-take-le, get_or-drop, get_or-take}
+use lib.Seq.{get_or-drop, get_or-take}
 use Rattle.ranges.specs.Fields.{range_of, most}
 use Rattle.ranges.specs.declared.Particulars.{Particulars}
 use Rattle.simpson.specs.Curve.{curve}
@@ -22,7 +21,6 @@ use Rattle.hydrostatics.specs.Row.{waterline_of}
 use Rattle.hydrostatics.specs.Private.Hull.{Filled, InRange}
 use Rattle.hydrostatics.specs.Private.Sections.{area_at, moment_at, curve_of, moment_of, Summable, Balanced, Along}
 use Rattle.hydrostatics.proofs.Exchange.{S_along, Sz_along, Sx_along, Q_is, C_is}
-use Rattle.hydrostatics.proofs.Filling.{Filling, filling_all}
 use Rattle.hydrostatics.proofs.Limits.{place_within, area_most, moment_most, Q_most, C_most, S_most, Sz_most, Sx_most}
 use Rattle.hydrostatics.proofs.Plain.{filled_curve, filled_moment, filled_summable, filled_balanced}
 
@@ -58,10 +56,6 @@ module _ {table : List ℕ} {p : Particulars} (hull : InRange table p) {i k : �
   unfolding keel
   station_moment = filled_moment stands (omega arith) long ∙ moment_is
 
-  pub station_long : length (take count (drop (i * (p.m + 1)) table)) ≡ k + 1
-  unfolding keel
-  station_long = length-take-le count (drop (i * (p.m + 1)) table) long ∙ e
-
   pub station_last : get_or (take count (drop (i * (p.m + 1)) table)) k 0 ≡ half_breadth table p i k
   unfolding keel
   station_last = get_or-take count (drop (i * (p.m + 1)) table) k 0 (omega arith) ∙ stands.at k (omega arith)
@@ -76,8 +70,6 @@ module _ {table : List ℕ} {p : Particulars} (hull : InRange table p) {i k : �
       filled_balanced stands (omega arith) long (omega arith) (omega (arith, hull.complete.particulars.m_most)) (omega (arith, moment_is, moment_most hull i high))
 
 -- ---- along the stations
-pub all_along : {f : ℕ → ℕ} {i : ℕ} {l : List ℕ} → Filling 0 f (most (range_of 0) + 1) i l → {stations : ℕ} → i ≡ stations → Along f stations l
-all_along so e = record { long = so.long; filled = filling_all so e }
 
 pub record Total (n : ℕ) (f : ℕ → ℕ) (total : ℕ) : Type 0 where
   pub is : curve n f ≡ total

@@ -1,9 +1,9 @@
 -- Rows as they lie in a table, and the table that is written row by row.
 --     numbers_more, numbers_length                     one row more, in the code's `r + 1`; seven numbers a row
 --     Written                                          the table after the first r rows
---     written_none, written_more, written_all          before the first row; one row more, by its part; after the last
+--     written_none, written_more                       before the first row; one row more, by its part
 -- Assumes nothing.
-use mathlib.Core.Path.{◌≡◌, refl, ap, subst, ◌∙◌}
+use mathlib.Core.Path.{◌≡◌, refl, ap, ◌∙◌}
 use mathlib.Core.List.{List, ◌++◌, append_assoc}
 use Prim.Native.Nat.{ℕ, zero, suc, ◌+◌, ◌*◌, ◌≤◌}
 use native.Mathlib.Nat.{mul-suc}
@@ -53,6 +53,3 @@ module _ {row : ℕ → Row} {was : List ℕ} where
           long = ap length filled ∙ length-append (numbers_up_to row (r + 1)) (drop (row_width * (r + 1)) was) ∙ omega (arith, numbers_length row (r + 1), length-drop (row_width * (r + 1)) was);
           so_far = filled;
         }
-
-    pub written_all : {count : ℕ} → r ≡ count → rows ≡ numbers_up_to row count ++ drop (row_width * count) was
-    written_all e = subst (λ count. rows ≡ numbers_up_to row count ++ drop (row_width * count) was) e so.so_far

@@ -22,7 +22,7 @@ ghost use Rattle.hydrostatics.specs.Private.Sums.{TriedSums};
 
 use hull::Hull;
 use ranges::{Particulars, Reason, Record, Refusal};
-use table::{Sums, fill_rows};
+use table::{RowSums, Sums};
 
 // The seven numbers of a row: mm, kg, mm, mm, mm, mm, mm².
 #[derive(Clone, Copy, Debug, PartialEq, Eq)]
@@ -120,7 +120,11 @@ fn make_by<F: Fn(Hull) -> Option<[Sums; MOST_ROWS]>>(
         let outside = ranges::first_outside(half_breadths, Record::HalfBreadth).unwrap();
         return Err(Reason::OutOfRange.at(Refusal::HALF_BREADTHS_AT + outside));
     };
-    fill_rows(p, &sums[..count], rows)
+    let made = RowSums {
+        particulars: p,
+        sums: &sums[..count],
+    };
+    made.fill(rows)
 }
 
 // The rows of a hull into the lent table.
@@ -163,6 +167,7 @@ fn divided(n: u64, unit: f64) -> f64
 }
 
 // The figures of a row whose numbers are in range.
+#[tactic(auto, using(crate::proofs::InRows::row_in_range))]
 fn figures_of(row: Row) -> Figures
     requires { first_outside row_ranges (map pos (numbers_of row)) ≡ row_width }
     ensures { result ≡ figures_of row }

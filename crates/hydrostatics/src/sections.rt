@@ -3,10 +3,10 @@
 ghost use Rattle.std.specs.Prelude.{◌≡◌, ◌≤◌};
 ghost use Rattle.hydrostatics.specs.Row.{sums_at, waterline_of};
 ghost use Rattle.hydrostatics.specs.Private.Sections.{curve_from, curve_of, moment_of, Covers, Summable, Balanced, SectionOf, SectionsOf};
-ghost use Rattle.hydrostatics.specs.Private.Sums.{MakesSums, TriedSums};
+ghost use Rattle.hydrostatics.specs.Private.Sums.{TriedSums};
 
 use crate::MOST_ROWS;
-use crate::hull::{Hull, RangedHull};
+use crate::hull::{Hull, HullUpTo};
 use crate::table::{FIRST_WATERLINE, NO_SUMS, Sums};
 use ranges::{MOST_STATIONS, Record};
 use simpson::{
@@ -32,6 +32,7 @@ struct Sections {
 }
 
 // The first rule on the first two intervals.
+#[tactic(auto, using(crate::proofs::Plain::first_rule_from))]
 fn first_rule(ordinates: &[u64]) -> u64
     requires { Covers 2 ordinates.now }
     ensures { result ≡ curve_from 2 ordinates.now }
@@ -40,6 +41,7 @@ fn first_rule(ordinates: &[u64]) -> u64
 }
 
 // The second rule on the first three.
+#[tactic(auto, using(crate::proofs::Plain::second_rule_from))]
 fn second_rule(ordinates: &[u64]) -> u64
     requires { Covers 3 ordinates.now }
     ensures { result ≡ curve_from 3 ordinates.now }
@@ -79,17 +81,17 @@ fn moment_sum(ordinates: &[u64]) -> u64
     curve_sum(&moments[..ordinates.len()])
 }
 
-impl RangedHull<'_> {
-    // Station i up to waterline k.
-    fn section_at(&self, i: usize, k: usize) -> Section
-        requires { (i ≤ self.now.particulars.n) × (waterline_of 0 ≤ k) × (k ≤ self.now.particulars.m) }
-        ensures { SectionOf self.now.half_breadths.now self.now.particulars i k result }
+impl HullUpTo<'_> {
+    // Station i.
+    fn section_at(&self, i: usize) -> Section
+        requires { i ≤ self.now.particulars.n }
+        ensures { SectionOf self.now.half_breadths.now self.now.particulars i self.now.waterline result }
     {
         let keel = i * (self.particulars.m + 1);
-        let station = &self.half_breadths[keel..keel + k + 1];
+        let station = &self.half_breadths[keel..keel + self.waterline + 1];
         let area = curve_sum(station);
         let moment = moment_sum(station);
-        let half_breadth = station[k];
+        let half_breadth = station[self.waterline];
         Section {
             area,
             moment,
@@ -97,17 +99,16 @@ impl RangedHull<'_> {
         }
     }
 
-    // Every station up to waterline k.
-    fn sections_at(&self, k: usize) -> Sections
-        requires { (waterline_of 0 ≤ k) × (k ≤ self.now.particulars.m) }
-        ensures { SectionsOf self.now.half_breadths.now self.now.particulars k result }
+    // Every station.
+    fn sections(&self) -> Sections
+        ensures { SectionsOf self.now.half_breadths.now self.now.particulars self.now.waterline result }
     {
         let mut areas = [0u64; MOST_STATIONS];
         let mut moments = [0u64; MOST_STATIONS];
         let mut half_breadths = [0u64; MOST_STATIONS];
         let mut cubes = [0u64; MOST_STATIONS];
         for i in 0..self.particulars.n + 1 {
-            let section = self.section_at(i, k);
+            let section = self.section_at(i);
             let y = section.half_breadth;
             areas[i] = section.area;
             moments[i] = section.moment;
@@ -122,10 +123,9 @@ impl RangedHull<'_> {
         }
     }
 
-    // The five sums of the row of waterline k: along the length, the sections' and the waterline's own.
-    fn sums_at(&self, k: usize) -> Sums
-        requires { (waterline_of 0 ≤ k) × (k ≤ self.now.particulars.m) }
-        ensures { result ≡ sums_at self.now.half_breadths.now self.now.particulars k }
+    // The five sums of the waterline's row: along the length, the sections' and the waterline's own.
+    fn sums(&self) -> Sums
+        ensures { result ≡ sums_at self.now.half_breadths.now self.now.particulars self.now.waterline }
     {
         let stations = self.particulars.n + 1;
         let Sections {
@@ -133,7 +133,7 @@ impl RangedHull<'_> {
             moments,
             half_breadths,
             cubes,
-        } = self.sections_at(k);
+        } = self.sections();
         Sums {
             sum: curve_sum(&areas[..stations]),
             sz: curve_sum(&moments[..stations]),
@@ -141,17 +141,6 @@ impl RangedHull<'_> {
             q: curve_sum(&half_breadths[..stations]),
             c: curve_sum(&cubes[..stations]),
         }
-    }
-
-    // The five sums of every row.
-    fn sums_of_rows(&self) -> [Sums; MOST_ROWS]
-        ensures { MakesSums self.now.half_breadths.now self.now.particulars result }
-    {
-        let mut sums = [NO_SUMS; MOST_ROWS];
-        for r in 0..self.particulars.m - 1 {
-            sums[r] = self.sums_at(r + FIRST_WATERLINE);
-        }
-        sums
     }
 }
 
@@ -166,9 +155,14 @@ pub(crate) fn hull_sums(hull: Hull) -> Option<[Sums; MOST_ROWS]>
     if ranges::first_outside(half_breadths, Record::HalfBreadth).is_some() {
         return None;
     }
-    let ranged = RangedHull {
-        half_breadths,
-        particulars,
-    };
-    Some(ranged.sums_of_rows())
+    let mut sums = [NO_SUMS; MOST_ROWS];
+    for r in 0..particulars.m - 1 {
+        let part = HullUpTo {
+            half_breadths,
+            particulars,
+            waterline: r + FIRST_WATERLINE,
+        };
+        sums[r] = part.sums();
+    }
+    Some(sums)
 }

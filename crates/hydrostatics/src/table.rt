@@ -40,14 +40,8 @@ fn row_from(p: Particulars, k: usize, sums: Sums) -> Row
     requires { ParticularsInRange p × SumsWithin k sums }
     ensures { result ≡ row_from p k sums }
 {
-    let s = p.s;
-    let d = p.d;
-    let density = p.density;
-    let sum = sums.sum;
-    let sz = sums.sz;
-    let sx = sums.sx;
-    let q = sums.q;
-    let c = sums.c;
+    let Particulars { s, d, density, .. } = p;
+    let Sums { sum, sz, sx, q, c } = sums;
     let draft = d * k as u64;
     let displacement = s * d * sum * density / VOLUME_UNITS;
     let area = s * q / 12;
@@ -78,44 +72,53 @@ fn row_from(p: Particulars, k: usize, sums: Sums) -> Row
     }
 }
 
-// The rows of these sums made and tried, row by row upward.
-fn try_rows(p: Particulars, sums: &[Sums]) -> Result<usize, Refusal>
-    requires { AllWithin p sums.now }
-    ensures { TriedRows (rows_from p sums.now) (length sums.now) result }
-{
-    let mut before: u64 = 0;
-    for (r, five) in sums.iter().enumerate() {
-        let row = row_from(p, r + FIRST_WATERLINE, *five);
-        if row.displacement <= before {
-            return Err(Reason::DisplacementNotRising.at(r));
-        }
-        if HIGHEST_METACENTRE < row.km {
-            return Err(Reason::MetacentreTooHigh.at(r));
-        }
-        before = row.displacement;
-    }
-    Ok(sums.len())
+// The five sums of each row of a hull, none of them too large, beside its particulars.
+#[derive(Clone, Copy)]
+pub(crate) struct RowSums<'a> {
+    pub particulars: Particulars,
+    pub sums: &'a [Sums],
+    ghost within: { AllWithin particulars sums.now },
 }
 
-// Each row made, into the part of the table that starts at seven times its number.
-fn write_rows(p: Particulars, sums: &[Sums], rows: &mut [u64])
-    requires { AllWithin p sums.now × (row_width * length sums.now ≤ length rows.old) }
-    ensures { rows.new ≡ numbers_up_to (rows_from p sums.now) (length sums.now) ++ drop (row_width * length sums.now) rows.old }
-{
-    // By the place and not by `chunks_exact_mut`, after which a proof knows no number of the table.
-    for (r, five) in sums.iter().enumerate() {
-        let made = row_from(p, r + FIRST_WATERLINE, *five);
-        let at = ROW_WIDTH * r;
-        rows[at..at + ROW_WIDTH].copy_from_slice(&made.numbers());
+impl RowSums<'_> {
+    // The rows made and tried, row by row upward: how many there are.
+    fn try_rows(&self) -> Result<usize, Refusal>
+        ensures { TriedRows (rows_from self.now.particulars self.now.sums.now) (length self.now.sums.now) result }
+    {
+        let mut before: u64 = 0;
+        for (r, five) in self.sums.iter().enumerate() {
+            let row = row_from(self.particulars, r + FIRST_WATERLINE, *five);
+            if row.displacement <= before {
+                return Err(Reason::DisplacementNotRising.at(r));
+            }
+            if HIGHEST_METACENTRE < row.km {
+                return Err(Reason::MetacentreTooHigh.at(r));
+            }
+            before = row.displacement;
+        }
+        Ok(self.sums.len())
     }
-}
 
-// The rows of these sums: tried first, with the table untouched, and written once all have passed.
-pub(crate) fn fill_rows(p: Particulars, sums: &[Sums], rows: &mut [u64]) -> Result<usize, Refusal>
-    requires { AllWithin p sums.now × (row_width * length sums.now ≤ length rows.old) }
-    ensures { FillsRows (rows_from p sums.now) (length sums.now) result rows.old rows.new }
-{
-    let count = try_rows(p, sums)?;
-    write_rows(p, sums, rows);
-    Ok(count)
+    // Each row made, into the part of the table that starts at seven times its number.
+    fn write_rows(&self, rows: &mut [u64])
+        requires { row_width * length self.now.sums.now ≤ length rows.old }
+        ensures { rows.new ≡ numbers_up_to (rows_from self.now.particulars self.now.sums.now) (length self.now.sums.now) ++ drop (row_width * length self.now.sums.now) rows.old }
+    {
+        // By the place and not by `chunks_exact_mut`, after which a proof knows no number of the table.
+        for (r, five) in self.sums.iter().enumerate() {
+            let made = row_from(self.particulars, r + FIRST_WATERLINE, *five);
+            let at = ROW_WIDTH * r;
+            rows[at..at + ROW_WIDTH].copy_from_slice(&made.numbers());
+        }
+    }
+
+    // The rows into the lent table: tried first, with the table untouched, and written once all have passed.
+    pub(crate) fn fill(&self, rows: &mut [u64]) -> Result<usize, Refusal>
+        requires { row_width * length self.now.sums.now ≤ length rows.old }
+        ensures { FillsRows (rows_from self.now.particulars self.now.sums.now) (length self.now.sums.now) result rows.old rows.new }
+    {
+        let count = self.try_rows()?;
+        self.write_rows(rows);
+        Ok(count)
+    }
 }

@@ -22,6 +22,9 @@ overflow_add-p g c = let range = particulars_passed c.in_default.ensures in omeg
 pub overflow_add-p-2 : goal.overflow_add-p-2
 overflow_add-p-2 g c = let range = particulars_passed c.in_default.ensures in omega arith
 
+pub overflow_sub-count : goal.overflow_sub-count
+overflow_sub-count g c = let range = particulars_passed c.in_default.ensures in omega arith
+
 pub overflow_mul-p : goal.overflow_mul-p
 overflow_mul-p g c =
     let range = particulars_passed c.in_default.ensures in
@@ -31,9 +34,6 @@ overflow_mul-p g c =
 
 pub returns-then-half_breadths-p : goal.returns-then-half_breadths-p
 returns-then-half_breadths-p g c = refuses_at (wrong_table _ _ _ refl (none_place (sym c.in_default.ensures)) c.if-half_breadths-p.true) c.at-then-half_breadths-p.ensures
-
-pub overflow_sub-count : goal.overflow_sub-count
-overflow_sub-count g c = let range = particulars_passed c.in_default.ensures in omega arith
 
 pub returns-then-rows-count : goal.returns-then-rows-count
 returns-then-rows-count g c = refuses_at (wrong_room _ _ _ refl (none_place (sym c.in_default.ensures)) c.if-half_breadths-p.false c.if-rows-count.true) c.at-then-rows-count.ensures
@@ -55,12 +55,12 @@ returns-in_default-sums_of g c =
     let at = some_place (sym (sym c.unwrap-outside.ensures ∙ c.first_outside.ensures)) in
     refuses_at (bad_half_breadth _ _ _ refl (none_place (sym c.in_default.ensures)) c.if-half_breadths-p.false c.if-rows-count.false at.0 (omega (arith, at))) c.at-in_default-sums_of.ensures
 
-pub fill_rows-requires : goal.fill_rows-requires
-fill_rows-requires g c =
+pub invariant_of-made : goal.invariant_of-made
+invariant_of-made g c =
     let range = particulars_passed c.in_default.ensures in
     let made = c.requires.makes _ _ c.in-Some-sums_of.ensures in
     let all : length (take (c.args.p.m - 1) c.in-Some-sums_of.sums) ≡ c.args.p.m - 1 = length-take-le _ _ (omega arith) in
-    (all_within (made_front made.1) all made.0, omega (arith, all, c.if-rows-count.false))
+    record { within = all_within (made_front made.1) all made.0 }
 
 pub returns : goal.returns
 returns g c =
@@ -68,4 +68,4 @@ returns g c =
     let made = c.requires.makes _ _ c.in-Some-sums_of.ensures in
     let all : length (take (c.args.p.m - 1) c.in-Some-sums_of.sums) ≡ c.args.p.m - 1 = length-take-le _ _ (omega arith) in
     makes (rows_follow _ _ _ refl (none_place (sym c.in_default.ensures)) c.if-half_breadths-p.false c.if-rows-count.false refl (omega (arith, none_outside made.0)))
-    (fills_hull (made_front made.1) all c.fill_rows.ensures)
+    (fills_hull (made_front made.1) all c.fill.ensures)

@@ -6,29 +6,11 @@ use native.Mathlib.Omega.{arith}
 use lib.ListN.{length, take, drop, length-drop}
 use Rattle.arithmetic.proofs.Parts.{part_end}
 use Rattle.hydrostatics.specs.Private.Sections.{curve_from, curve_of, Summable}
-use Rattle.hydrostatics.proofs.Plain.{front_off, all_covered, front_covered, rest_summable}
+use Rattle.hydrostatics.proofs.Plain.{front_off, front_covered, rest_summable}
 use Rattle.hydrostatics.proofs.sections.+curve_sum.Goals as goal
-
-pub overflow_sub-intervals : goal.overflow_sub-intervals
-overflow_sub-intervals t c = omega (arith, c.requires.enough)
-
-pub second_rule-requires : goal.second_rule-requires
-second_rule-requires t c = all_covered c.requires (omega (arith, c.if-intervals-eq-SECOND_INTERVALS.true))
-
-pub returns-then-intervals-eq-SECOND_INTERVALS : goal.returns-then-intervals-eq-SECOND_INTERVALS
-returns-then-intervals-eq-SECOND_INTERVALS t c =
-    let o = c.args.ordinates.now in
-    let three : 3 ≡ length o - 1 = omega (arith, c.if-intervals-eq-SECOND_INTERVALS.true) in
-    c.second_rule.ensures ∙ ap (λ n. curve_from n o) three
 
 pub first_rule-front-requires : goal.first_rule-front-requires
 first_rule-front-requires t c = front_covered c.requires c.if-intervals-eq-SECOND_INTERVALS.false
-
-pub returns-then-intervals-eq-FIRST_INTERVALS : goal.returns-then-intervals-eq-FIRST_INTERVALS
-returns-then-intervals-eq-FIRST_INTERVALS t c =
-    let o = c.args.ordinates.now in
-    let two : 2 ≡ length o - 1 = omega (arith, c.if-intervals-eq-FIRST_INTERVALS.true) in
-    c.first_rule-front.ensures ∙ ap (λ n. curve_from n o) two
 
 -- neither two intervals nor three
 more : (o : List ℕ) → Summable o → (length o - 1 ≡ 2 → ⊥) → (length o - 1 ≡ 3 → ⊥) → 5 ≤ length o

@@ -1,32 +1,19 @@
 -- Each ordinate times its place is stored at its place, and the sum is over these. Assumes nothing.
 use Prim.Native.Nat.{◌*◌, ◌≤◌}
-use mathlib.Core.Path.{refl, sym, ◌∙◌}
+use mathlib.Core.Path.{sym, ◌∙◌}
 use native.Mathlib.Omega.{arith}
 use lib.ListN.{get_or, length}
-use lib.Seq.{length-take-le}
 use Rattle.hydrostatics.specs.Private.Hull.{Filled}
-use Rattle.hydrostatics.proofs.Filling.{filling_none, filling_more, filling_all}
+use Rattle.hydrostatics.proofs.Filling.{filling_all}
 use Rattle.hydrostatics.proofs.Plain.{moment_is, lever_fits, filled_curve, filled_summable}
 use Rattle.hydrostatics.proofs.sections.moment_sum.Goals as goal
 use Rattle.hydrostatics.proofs.sections.moment_sum.Goals.{After-loop-i}
 
-pub loop-i-init : goal.loop-i-init
-loop-i-init c = filling_none refl
-
 pub overflow_mul-moments : goal.overflow_mul-moments
 overflow_mul-moments c = omega (arith, lever_fits c.requires c.loop-i.i (omega arith))
 
-pub loop-i-preserved : goal.loop-i-preserved
-loop-i-preserved c = filling_more c.loop-i.invariant (omega arith) refl
-
 room : (c : After-loop-i) → length c.args.ordinates.now ≤ length c.loop-i.moments
 room c = omega (arith, c.loop-i.invariant.long, c.requires.most_stations)
-
-pub slice_bounds-moments-end : goal.slice_bounds-moments-end
-slice_bounds-moments-end c = room c
-
-pub slice_bounds-curve_sum-end : goal.slice_bounds-curve_sum-end
-slice_bounds-curve_sum-end c = sym (length-take-le _ _ (room (goal.at.slice_bounds-curve_sum-end c).After-loop-i))
 
 filled : (c : After-loop-i) → let o = c.args.ordinates.now in Filled 0 (λ i. get_or o i 0 * i) (length o) c.loop-i.moments
 filled c = filling_all c.loop-i.invariant (omega arith)

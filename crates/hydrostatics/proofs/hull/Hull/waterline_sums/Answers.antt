@@ -23,9 +23,6 @@ loop-i-init c =
     let hull = c.args.self.now in
     (below_none (λ k. half_breadth hull.half_breadths.now hull.particulars k c.args.j ≤ most (range_of 5)), swept_none, swept_none, swept_none)
 
-pub half_breadth_at-y-requires : goal.half_breadth_at-y-requires
-half_breadth_at-y-requires c = let given = c.requires in (omega (arith, given.0.long), given.1)
-
 pub returns-then-not-is_within : goal.returns-then-not-is_within
 returns-then-not-is_within c =
     let given = c.requires in

@@ -4,7 +4,7 @@ use native.Mathlib.Omega.{arith}
 use Rattle.std.specs.Prelude.{Err}
 use Rattle.ranges.specs.Reasons.{paper}
 use Rattle.hydrostatics.proofs.Passing.{passing_none, passing_more, passing_all, too_low, too_high, refusal}
-use Rattle.hydrostatics.proofs.table.try_rows.Goals as goal
+use Rattle.hydrostatics.proofs.table.RowSums.try_rows.Goals as goal
 
 pub loop-r-init : goal.loop-r-init
 loop-r-init c = passing_none

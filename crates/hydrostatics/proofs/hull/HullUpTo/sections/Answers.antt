@@ -1,18 +1,14 @@
 -- What is made of each station is stored at its number. Assumes nothing.
 use Prim.Native.Nat.{◌*◌, ◌≤◌}
-use mathlib.Core.Path.{refl, sym, ap, ◌∙◌}
+use mathlib.Core.Path.{sym, ap, ◌∙◌}
 use native.Mathlib.Omega.{arith}
 use Rattle.arithmetic.proofs.Products.{powers_le}
 use Rattle.arithmetic.proofs.Ring.{pow3}
 use Rattle.ranges.specs.Fields.{range_of, most}
-use Rattle.hydrostatics.proofs.Filling.{filling_none, filling_more}
+use Rattle.hydrostatics.proofs.Filling.{filling_more}
 use Rattle.hydrostatics.proofs.Limits.{half_breadth_le}
-use Rattle.hydrostatics.proofs.Stations.{all_along}
-use Rattle.hydrostatics.proofs.hull.RangedHull.sections_at.Goals as goal
-use Rattle.hydrostatics.proofs.hull.RangedHull.sections_at.Goals.{After-section_at-section}
-
-pub loop-i-init : goal.loop-i-init
-loop-i-init c = (filling_none refl, filling_none refl, filling_none refl, filling_none refl)
+use Rattle.hydrostatics.proofs.hull.HullUpTo.sections.Goals as goal
+use Rattle.hydrostatics.proofs.hull.HullUpTo.sections.Goals.{After-section_at-section}
 
 y_most : (c : After-section_at-section) → c.section_at-section.result.half_breadth ≤ most (range_of 5)
 y_most c = rw c.section_at-section.ensures.half_breadth_is (half_breadth_le c.args.self.now.in_range _ _)
@@ -33,13 +29,3 @@ loop-i-preserved c =
       filling_more l.2 (omega arith) y,
       filling_more l.3 (omega arith) (ap (λ y. y * y * y) y ∙ sym (pow3 _)),
     )
-
-pub returns : goal.returns
-returns c =
-    let l = c.loop-i.invariant in
-    record {
-      areas_are = all_along l.0 (omega arith);
-      moments_are = all_along l.1 (omega arith);
-      half_breadths_are = all_along l.2 (omega arith);
-      cubes_are = all_along l.3 (omega arith);
-    }
