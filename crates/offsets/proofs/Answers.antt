@@ -12,7 +12,7 @@ use native.Mathlib.Nat.{mul-div_cancel_left}
 use native.Mathlib.Omega.{arith}
 use borrow.Author.Tests.{lt-ltb, le-ltb}
 use lib.IntN.{ℤ, nat_abs}
-use lib.ListN.{length, take, drop, length-map}
+use lib.ListN.{length, drop, length-map}
 use lib.Seq.{length-take-le}
 use Rattle.arithmetic.proofs.Choice.{chosen}
 use Rattle.ranges.specs.Outcome.{answered, refused, answer_with, left_with}
@@ -22,7 +22,7 @@ use Rattle.ranges.specs.Refusals.{half_breadth_table, item_table, tank_table}
 use Rattle.ranges.specs.Sizes.{points_of, longest_file, item_width, tank_width, room_for_half_breadths, room_for_items, room_for_tanks}
 use Rattle.ranges.specs.declared.refusal.Reason.TheVariants.{FileTooLong, WrongSize}
 use Rattle.ranges.specs.declared.refusal.Refusal.{Refusal}
-use Rattle.offsets.specs.File.{Contents, file}
+use Rattle.offsets.specs.File.{file}
 use Rattle.offsets.specs.Reader.{reader_of, reader_by, Reads}
 use Rattle.offsets.specs.Private.Steps.{Sized, Rooms, Parses, front}
 use Rattle.offsets.specs.Tokens.{tokens}

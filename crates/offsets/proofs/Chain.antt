@@ -9,15 +9,14 @@
 -- Assumes nothing.
 use mathlib.Core.Path.{◌≡◌, refl, sym, ap, ap₂, ◌∙◌}
 use mathlib.Core.List.{List, [], ◌∷◌, ◌++◌}
-use Prim.Native.Nat.{ℕ, zero, suc, ◌+◌, ◌*◌, ◌%◌, ◌≤◌, ◌<◌}
+use Prim.Native.Nat.{ℕ, zero, suc, ◌+◌, ◌*◌, ◌%◌, ◌≤◌}
 use native.Mathlib.Nat.{mul-suc, mul-zero, mod-add-mod, mod-eq_of_lt, mod_self, zero-mod, suc-add, zero-add, add-zero}
 use native.Mathlib.Omega.{arith}
-use lib.IntN.{ℤ, pos}
+use lib.IntN.{ℤ}
 use lib.ListN.{length, take, drop, get_or}
 use lib.Seq.{take-length}
 use Rattle.arithmetic.proofs.Parts.{drop_step}
 use Rattle.ranges.specs.Fields.{Range, ◌to◌, most, range_of, particulars, half_breadth, item, tank}
-use Rattle.ranges.specs.Limits.{limits}
 use Rattle.ranges.specs.Outcome.{Outcome, answered, refused, and_then}
 use Rattle.ranges.specs.Refusals.{token_after_end}
 use Rattle.ranges.specs.Outside.{numbers_of}
@@ -25,7 +24,7 @@ use Rattle.ranges.specs.Reasons.{number_of}
 use Rattle.ranges.specs.Sizes.{points_of, most_items, most_tanks}
 use Rattle.ranges.specs.declared.Particulars.{Particulars}
 use Rattle.ranges.specs.declared.refusal.Refusal.{Refusal}
-use Rattle.offsets.specs.File.{Contents, records, hull_by, section, complete, file_by, file}
+use Rattle.offsets.specs.File.{Contents, records, section, complete, file_by, file}
 use Rattle.offsets.specs.Reading.{Reading, count, numbers}
 use Rattle.offsets.specs.Private.Steps.{FindsAt, Finds, ranges_from, tokens_at, reached, Step, count_by, particulars_by, section_by, front}
 use Rattle.offsets.specs.Tokens.{Token, tokens}

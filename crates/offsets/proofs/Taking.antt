@@ -2,17 +2,14 @@
 --     one_end, one_none, one_in, one_out       a number of a range: no token, no number, within it, out of it
 --     count_taken, count_refused               a count is the size of a number that was taken; or is refused as the number was
 -- Assumes nothing.
-use mathlib.Core.Path.{◌≡◌, refl, sym}
-use mathlib.Core.Bool.{true, false, ◌&&◌}
+use mathlib.Core.Path.{◌≡◌}
+use mathlib.Core.Bool.{true, false}
 use mathlib.Core.List.{List, [], ◌∷◌}
 use Prim.Native.Nat.{ℕ, ◌≤◌}
 use Rattle.ranges.proofs.Facts.{within_size}
 use Rattle.offsets.proofs.Within.{one_within}
-use lib.Dec.{leb}
-use lib.IntN.{ℤ, pos, negsuc, nat_abs}
-use Rattle.arithmetic.specs.Signed.{is_negative}
+use lib.IntN.{ℤ, nat_abs}
 use Rattle.arithmetic.proofs.Choice.{chosen}
-use Rattle.arithmetic.proofs.Tests.{never}
 use Rattle.ranges.specs.Fields.{Range, ◌to◌, within}
 use Rattle.ranges.specs.Outcome.{answered, refused, and_then}
 use Rattle.ranges.specs.Refusals.{not_anumber, count_not_allowed, ends_too_early}

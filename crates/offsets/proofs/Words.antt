@@ -4,7 +4,6 @@
 --     Clear, run_takes, closed_is    bytes that are no separators go into the run, and make one token where it is closed
 --     TokenAt, token_at              where a byte stands that is no separator, a token begins: its bytes, and the tokens after it
 --     finds_number, finds_other, finds_none          what is read at its first byte tells what it says
---     none_ahead, byte_ahead         the first byte from a place on that is no separator, by how many separators stand before it
 -- Assumes nothing.
 use mathlib.Core.Path.{◌≡◌, refl, sym, ap, subst, ◌∙◌}
 use mathlib.Core.Bool.{Bool, true, false}
@@ -20,19 +19,14 @@ use lib.Seq.{drop-drop, drop_at, get_or-drop}
 use Rattle.arithmetic.specs.Choice.{when◌then◌else◌}
 use Rattle.arithmetic.proofs.Choice.{chosen, if_either}
 use Rattle.arithmetic.proofs.Parts.{drop_step}
-use Rattle.arithmetic.proofs.Tests.{never, by_test}
+use Rattle.arithmetic.proofs.Tests.{never}
 use Rattle.numerals.specs.Number.{minus, number_of, is_digit}
 use Rattle.numerals.specs.Front.{digits_of, enough_digits, front, numeral_at}
-use Rattle.numerals.specs.declared.reading.Numeral.{Numeral}
-use Rattle.std.specs.Prelude.{Some, None, not, cond}
-use Rattle.std.specs.List.{position, position_or_len}
-use Rattle.std.proofs.lemmas.Option.{none-some}
-use Rattle.std.proofs.lemmas.List.Sums.{prefix_len_passes}
-use Rattle.std.proofs.lemmas.List.Quantifiers.{position-Some}
+use Rattle.std.specs.Prelude.{Some, None}
 use Rattle.numerals.proofs.Fronts as Fronts
 use Rattle.numerals.proofs.Wholes.{digit_range}
 use Rattle.offsets.specs.Tokens.{Token, number, no_number, space, line_feed, tab, carriage_return, is_separator, said, closed, tokens_by, tokens_from}
-use Rattle.offsets.specs.Private.Steps.{tokens_at, ends_here, Begins, IsByte, ByteAt}
+use Rattle.offsets.specs.Private.Steps.{tokens_at, ends_here, Begins, IsByte}
 
 -- ---- separators, and the end
 module _ (text : List ℕ) (i : ℕ) where
@@ -252,50 +246,3 @@ module _ (text : List ℕ) (at : ℕ) (t : TokenAt text at) where
 
   pub finds_none : numeral_at text at ≡ None → Begins (no_number at) (tokens_at text at)
   finds_none e = says_none (Fronts.not_of_none text at t.token t.rest t.stands (no_digit t.ends) e)
-
--- ---- the first token from a place on
--- so many separators are passed over
-passed : (text : List ℕ) (i k : ℕ) → k ≤ length (drop i text) → ((j : ℕ) → j < k → is_separator (get_or (drop i text) j 0) ≡ true) → tokens_at text (i + k) ≡ tokens_at text i
-passed text i zero h all = ap (tokens_at text) (add-zero i)
-passed text i (suc k) h all =
-    let place : i + suc k ≡ i + k + 1 = omega arith in
-    ap (tokens_at text) place ∙ at_separator text (i + k) (omega (arith, length-drop i text)) (rw get_or-drop at (all k (omega arith))) ∙ passed text i k (omega arith) (λ j l. all j (omega arith))
-
--- a byte of a token
-abbrev other : ℕ → Bool
-other b = not (is_separator b)
-
-no_other : (b : Bool) → not b ≡ false → b ≡ true
-no_other true e = refl
-no_other false e = never (sym e)
-
-an_other : (b : Bool) → not b ≡ true → b ≡ false
-an_other true e = never e
-an_other false e = refl
-
-still_other : (b : Bool) → not (not b) ≡ true → b ≡ true
-still_other true e = refl
-still_other false e = never e
-
-module _ (text : List ℕ) (from : ℕ) where
-  abbrev ahead : List ℕ
-  ahead = drop from text
-
-  all_passed : length ahead ≤ position_or_len other ahead → tokens_at text from ≡ []
-  all_passed h =
-      sym (passed text from (length ahead) (omega arith) (λ j l. still_other (is_separator (get_or ahead j 0)) (prefix_len_passes (λ b. not (other b)) ahead j 0 (omega arith))))
-      ∙ at_end text (from + length ahead) (omega (arith, length-drop from text))
-
-  pub none_ahead : position other ahead ≡ None → tokens_at text from ≡ []
-  none_ahead e =
-      by_test (ltb (position_or_len other ahead) (length ahead))
-      (λ t. absurd (none-some (position_or_len other ahead) (sym e ∙ ap (λ t. cond t (Some (position_or_len other ahead)) None) t)))
-      (λ t. all_passed (ltb-false (position_or_len other ahead) (length ahead) t))
-
-  pub byte_ahead : (k : ℕ) → position other ahead ≡ Some k → ByteAt text from (from + k)
-  byte_ahead k e =
-      let p = position-Some other ahead k 0 e in
-      record {
-        same = passed text from k (omega arith) (λ j l. no_other (is_separator (get_or ahead j 0)) (p.2 j l));
-        byte = record { there = omega (arith, length-drop from text, p.0); word = rw get_or-drop at (an_other (is_separator (get_or ahead k 0)) p.1) };
-      }

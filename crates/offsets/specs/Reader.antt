@@ -2,7 +2,7 @@
 use Rattle.std.specs.Prelude.{ℕ, ◌/◌, ◌≡◌, List, map, ltb, ℤ, nat_abs, length, Result}
 use Rattle.arithmetic.specs.Choice.{when◌then◌else◌}
 use Rattle.ranges.specs.Limits.{Limits, limits}
-use Rattle.ranges.specs.Outcome.{Outcome, answered, refused, answer_with, left_with}
+use Rattle.ranges.specs.Outcome.{Outcome, refused, answer_with, left_with}
 use Rattle.ranges.specs.Outside.{particulars_of}
 use Rattle.ranges.specs.Reasons.{paper}
 use Rattle.ranges.specs.Refusals.{file_too_long, wrong_size, half_breadth_table, item_table, tank_table}

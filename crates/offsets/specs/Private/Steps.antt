@@ -1,12 +1,12 @@
 -- What the private functions of the reader find by place, told on the tokens. No promise needs these words: they tie the code to `Reading` and `File`.
-use Rattle.std.specs.Prelude.{ℕ, zero, suc, ◌+◌, ◌*◌, ◌%◌, ◌≤◌, ◌<◌, ◌≡◌, Bool, true, false, List, [], ◌∷◌, ltb, ℤ, pos, nat_abs, length, take, drop, get_or, Option, Some, None, Result, Ok, Err}
+use Rattle.std.specs.Prelude.{ℕ, zero, suc, ◌+◌, ◌*◌, ◌%◌, ◌≤◌, ◌<◌, ◌≡◌, Bool, true, false, List, [], ◌∷◌, ltb, ℤ, length, take, drop, get_or, Option, Some, None, Result, Ok, Err}
 use Rattle.arithmetic.specs.Choice.{when◌then◌else◌}
 use Rattle.ranges.specs.Fields.{Range, ◌to◌, most, range_of, half_breadth, item, tank}
 use Rattle.ranges.specs.Limits.{limits}
 use Rattle.ranges.specs.Outcome.{Outcome, answered, refused}
 use Rattle.ranges.specs.Outside.{numbers_of}
-use Rattle.ranges.specs.Reasons.{number_of, paper}
-use Rattle.ranges.specs.Sizes.{longest_file, room_for_half_breadths, room_for_items, room_for_tanks, item_width, tank_width, most_items, most_tanks, points_of}
+use Rattle.ranges.specs.Reasons.{number_of}
+use Rattle.ranges.specs.Sizes.{longest_file, room_for_half_breadths, room_for_items, room_for_tanks, most_items, most_tanks, points_of}
 use Rattle.ranges.specs.declared.refusal.Refusal.{Refusal}
 use Rattle.offsets.specs.File.{Contents, complete, file, hull_by, section}
 use Rattle.offsets.specs.Reading.{Reading, one, numbers, count}

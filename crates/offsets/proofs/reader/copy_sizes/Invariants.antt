@@ -2,7 +2,7 @@
 use mathlib.Core.Path.{◌≡◌}
 use mathlib.Core.List.{◌++◌, map}
 use lib.IntN.{nat_abs}
-use lib.ListN.{length, take, drop}
+use lib.ListN.{take, drop}
 use Rattle.offsets.proofs.reader.copy_sizes.Given as goal
 
 abbrev pub invariant-loop-i : goal.invariant-loop-i

@@ -1,5 +1,5 @@
 -- A count is the size of a number of its range. Assumes nothing.
-use mathlib.Core.Path.{◌≡◌, ◌∙◌}
+use mathlib.Core.Path.{◌≡◌}
 use borrow.Author.Rules.{rules}
 use lib.IntN.{nat_abs}
 use mir.Syntax.{w64}
