@@ -22,7 +22,8 @@ struct Section {
     pub half_breadth: u64,
 }
 
-// Every station so, and the cubes of the half-breadths at the waterline.
+// Every station so, and the cubes of the half-breadths at the waterline. Four lists and not one of stations, since each is summed
+// as a slice of numbers.
 #[derive(Clone, Copy)]
 struct Sections {
     pub areas: [u64; MOST_STATIONS],

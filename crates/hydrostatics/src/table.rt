@@ -23,7 +23,7 @@ pub(crate) struct Sums {
 // Row r belongs to waterline r + 2.
 pub(crate) const FIRST_WATERLINE: usize = 2;
 
-// What stands where no sums are made yet.
+// What stands where no sums are made yet: without a heap there is room for the most rows that a hull may have.
 pub(crate) const NO_SUMS: Sums = Sums {
     sum: 0,
     sz: 0,

@@ -1,6 +1,6 @@
 -- Figures of items that do not depend on the items' order.
 --     InAnyOrder           such a figure: an item is put to the figure of the others, any two of them in either order
---     _with_, of_item       totals added, and what an item brings
+--     ◌with◌, of_item       totals added, and what an item brings
 --     totals_any_order     the totals are such a figure,
 --     count_any_order      so is how many numbers the items have,
 --     range_any_order      and whether all are in range

@@ -21,7 +21,7 @@ use Rattle.arithmetic.specs.Choice.{when◌then◌else◌}
 use Rattle.arithmetic.proofs.Choice.{chosen}
 use Rattle.arithmetic.proofs.Tests.{same_or_other}
 use Rattle.ranges.specs.Fields.{item}
-use Rattle.ranges.specs.Outcome.{Outcome, answered, refused, answer_with}
+use Rattle.ranges.specs.Outcome.{Outcome, answered, refused, answer_with, value_after}
 use Rattle.ranges.specs.Outside.{outside_from, first_outside}
 use Rattle.ranges.specs.Refusals.{no_such_slot, slot_empty, tally_unsound}
 use Rattle.ranges.specs.Sizes.{item_width}
@@ -31,10 +31,11 @@ use Rattle.loading.specs.Paper.{default_reading}
 use Rattle.loading.proofs.SameTotals.{condition_same}
 use Rattle.tally.specs.Condition.{condition_aboard}
 use Rattle.tally.specs.History.{Step, load, discharge, shift, taken, Line, is_listed, struck, moved, entered, items_on, unless_refused, through, tally_after, list_after, answer_after, list_answer_after}
-use Rattle.tally.specs.Steps.{moved_to, with_slot, loads, discharges, shifts, stepped}
+use Rattle.tally.specs.Steps.{moved_to, with_slot, loads, discharges, shifts, HandsBack}
 use Rattle.tally.specs.Tally.{slot_count, no_item, freed, holding, slot_at, aboard, table_of, added_up, tally_of, empty, outside, in_range, sound}
 use Rattle.tally.specs.declared.Item.{Item}
 use Rattle.tally.specs.declared.Slot.{Slot}
+use Rattle.tally.specs.declared.Stepped.{Stepped}
 use Rattle.tally.specs.declared.Tally.{Tally}
 use Rattle.tally.proofs.AnyOrder.{InAnyOrder, totals_any_order, count_any_order, range_any_order}
 use Rattle.tally.proofs.InRange.{in_range_moved}
@@ -42,14 +43,15 @@ use Rattle.tally.proofs.Lists.{held, held_listed, held_unlisted, held_entered, h
 use Rattle.tally.proofs.Slots.{none_aboard, figure_slot, SlotInRange, freed_in_range, in_range_at, in_range_set, sound_is, sound_in_range}
 
 -- ---- one step of any tally
-pub refused_unchanged : {t : Tally} {o : Outcome Tally} {number place : ℕ} → o ≡ refused number place → (stepped t o).tally ≡ t
-unfolding stepped
-refused_unchanged e = rw e
+pub refused_unchanged : {t : Tally} {o : Outcome Tally} {s : Stepped} {number place : ℕ} → HandsBack t o s → o ≡ refused number place → s.tally ≡ t
+refused_unchanged {t} back e = back.tally_is ∙ ap (λ o. value_after (λ after. after) o t) e
 
-pub stepped_on : (t : Tally) (o : Outcome Tally) → (stepped t o).tally ≡ unless_refused o t
-unfolding stepped
-stepped_on t (answered after) = refl
-stepped_on t (refused number place) = refl
+after_or_was : (t : Tally) (o : Outcome Tally) → value_after (λ after. after) o t ≡ unless_refused o t
+after_or_was t (answered after) = refl
+after_or_was t (refused number place) = refl
+
+pub stepped_on : {t : Tally} {o : Outcome Tally} {s : Stepped} → HandsBack t o s → s.tally ≡ unless_refused o t
+stepped_on {t} {o} back = back.tally_is ∙ after_or_was t o
 
 pub usable_at_once : (slot : ℕ) (i : Item) (t : Tally) {u : Tally} → length t.slots ≡ slot_count → discharges slot t ≡ answered u → outside i ≡ item_width → (slot_at u slot ≡ freed) × (loads slot i u ≡ answered (with_slot u slot (holding i)))
 unfolding discharges loads tally_of

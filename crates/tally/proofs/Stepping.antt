@@ -4,28 +4,31 @@
 --     discharges_tried, discharges_empty, discharges_done discharge
 --     shifts_tried, shifts_empty, shifts_done             shift
 --     fitting_load, fitting_discharge, fitting_shift      what is aboard afterwards is in range
---     paper_stepped                                       what is handed back tells the outcome
+--     handed_back, handed                                 what a call hands back of a tally: it keeps the promise of a step
+--     handed_unique                                       and nothing else keeps it
 --     step_unique                                         a lent tally's promise determines the answer and the tally
---     refused_as, done_as                                 what a step hands back that was refused, and that was done
 -- Assumes nothing.
-use mathlib.Core.Path.{◌≡◌, refl, sym, ap, ◌∙◌}
+use mathlib.Core.Path.{◌≡◌, refl, sym, ap, ap₂, ◌∙◌}
 use mathlib.Core.Bool.{true, false}
 use Prim.Native.Nat.{ℕ, ◌≤◌, ◌<◌}
 use native.Mathlib.Omega.{arith}
 use borrow.Author.Tests.{lt-ltb, le-ltb, le-leb, lt-leb}
 use lib.ListN.{length}
+use Rattle.std.specs.Prelude.{Result, Ok, Err}
 use Rattle.arithmetic.proofs.Choice.{chosen}
+use Rattle.arithmetic.proofs.Only.{only}
 use Rattle.ranges.specs.Fields.{within}
-use Rattle.ranges.specs.Outcome.{Outcome, answered, refused}
+use Rattle.ranges.specs.Outcome.{Outcome, answered, refused, and_then}
+use Rattle.ranges.specs.Reasons.{paper as paper_result}
 use Rattle.ranges.specs.Outside.{outside_from, first_outside}
 use Rattle.ranges.specs.Refusals.{slot_taken, slot_empty}
 use Rattle.ranges.specs.Sizes.{item_width}
-use Rattle.ranges.specs.declared.Refusal.{Refusal}
+use Rattle.ranges.specs.declared.refusal.Refusal.{Refusal}
+use Rattle.ranges.proofs.Outcomes.{refused_not, refusal_same}
 use Rattle.tally.specs.Private.Listing.{Fitting}
-use Rattle.tally.specs.Private.Trying.{passed, Tried, unsound, beyond, nowhere, none}
-use Rattle.tally.specs.Steps.{moved_to, with_slot, loads, discharges, shifts, stepped, paper}
+use Rattle.tally.specs.Private.Trying.{Tried, unsound, beyond, nowhere, none}
+use Rattle.tally.specs.Steps.{moved_to, with_slot, loads, discharges, shifts, paper_of, HandsBack}
 use Rattle.tally.specs.Tally.{slot_count, no_item, freed, holding, slot_at, table_of, outside, sound}
-use Rattle.tally.specs.declared.Answer.{Answer}
 use Rattle.tally.specs.declared.Item.{Item}
 use Rattle.tally.specs.declared.Place.{Place}
 use Rattle.tally.specs.declared.Stepped.{Stepped}
@@ -39,20 +42,25 @@ pub record Passed (t : Tally) (i : Item) (slot : ℕ) : Type 0 where
   pub inside : item_width ≤ outside i
   pub there : slot < slot_count
 
-pub passed_all : {t : Tally} {i : Item} {slot : ℕ} {r : Refusal} → Tried t i slot r → r.number ≡ passed → Passed t i slot
-passed_all (unsound s) e = absurd (omega arith)
-passed_all (beyond s o h) e = absurd (omega arith)
-passed_all (nowhere s o h) e = absurd (omega arith)
+pub passed_all : {t : Tally} {i : Item} {slot : ℕ} {r : Result (Unit {0}) Refusal} {done : Unit {0}} → Tried t i slot r → r ≡ Ok done → Passed t i slot
+passed_all (unsound s) e = refused_not (ap paper_result e)
+passed_all (beyond s o h) e = refused_not (ap paper_result e)
+passed_all (nowhere s o h) e = refused_not (ap paper_result e)
 passed_all (none s o h) e = record { is_sound = s; inside = o; there = h }
+
+-- a refusal that is passed on, in place of another answer
+passed_on : {A B : Type 0} {n p n' p' : ℕ} → ◌≡◌ {A = Outcome A} (refused n p) (refused n' p') → ◌≡◌ {A = Outcome B} (refused n p) (refused n' p')
+unfolding and_then
+passed_on e = ap (λ o. and_then o (λ a. refused 0 0)) e
 
 -- ---- load
 module _ (slot : ℕ) (i : Item) (t : Tally) where
-  pub loads_tried : {r : Refusal} → Tried t i slot r → (r.number ≡ passed → ⊥) → loads slot i t ≡ refused r.number r.place
+  pub loads_tried : {r : Result (Unit {0}) Refusal} {n p : ℕ} → Tried t i slot r → paper_result r ≡ refused n p → loads slot i t ≡ refused n p
   unfolding loads
-  loads_tried (unsound s) n = simp (s, chosen)
-  loads_tried (beyond {place} s o h) n = rw (← o) (simp (s, lt-ltb place item_width h, chosen))
-  loads_tried (nowhere s o h) n = simp (s, le-ltb (outside i) item_width o, le-leb slot_count slot h, chosen)
-  loads_tried (none s o h) n = absurd (n refl)
+  loads_tried (unsound s) e = simp (s, chosen) (passed_on e)
+  loads_tried (beyond {place} s o h) e = rw (← o) (simp (s, lt-ltb place item_width h, chosen) (passed_on e))
+  loads_tried (nowhere s o h) e = simp (s, le-ltb (outside i) item_width o, le-leb slot_count slot h, chosen) (passed_on e)
+  loads_tried (none s o h) e = refused_not (sym e)
 
   module _ (p : Passed t i slot) where
     pub loads_taken : (slot_at t slot).filled ≡ true → loads slot i t ≡ refused slot_taken slot
@@ -73,12 +81,12 @@ unfolding table_of first_outside outside_from within
 nothing_inside = simp chosen
 
 module _ (slot : ℕ) (t : Tally) where
-  pub discharges_tried : {r : Refusal} → Tried t no_item slot r → (r.number ≡ passed → ⊥) → discharges slot t ≡ refused r.number r.place
+  pub discharges_tried : {r : Result (Unit {0}) Refusal} {n p : ℕ} → Tried t no_item slot r → paper_result r ≡ refused n p → discharges slot t ≡ refused n p
   unfolding discharges
-  discharges_tried (unsound s) n = simp (s, chosen)
-  discharges_tried (beyond s o h) n = absurd (omega (arith, o, nothing_inside))
-  discharges_tried (nowhere s o h) n = simp (s, le-leb slot_count slot h, chosen)
-  discharges_tried (none s o h) n = absurd (n refl)
+  discharges_tried (unsound s) e = simp (s, chosen) (passed_on e)
+  discharges_tried (beyond s o h) e = absurd (omega (arith, o, nothing_inside))
+  discharges_tried (nowhere s o h) e = simp (s, le-leb slot_count slot h, chosen) (passed_on e)
+  discharges_tried (none s o h) e = refused_not (sym e)
 
   module _ (p : Passed t no_item slot) where
     pub discharges_empty : (slot_at t slot).filled ≡ false → discharges slot t ≡ refused slot_empty slot
@@ -98,12 +106,12 @@ module _ (slot : ℕ) (to : Place) (t : Tally) where
   abbrev there_at : Item
   there_at = moved_to to no_item
 
-  pub shifts_tried : {r : Refusal} → Tried t (moved_to to no_item) slot r → (r.number ≡ passed → ⊥) → shifts slot to t ≡ refused r.number r.place
+  pub shifts_tried : {r : Result (Unit {0}) Refusal} {n p : ℕ} → Tried t (moved_to to no_item) slot r → paper_result r ≡ refused n p → shifts slot to t ≡ refused n p
   unfolding shifts
-  shifts_tried (unsound s) n = simp (s, chosen)
-  shifts_tried (beyond {place} s o h) n = rw (← o) (simp (s, lt-ltb place item_width h, chosen))
-  shifts_tried (nowhere s o h) n = simp (s, le-ltb (outside there_at) item_width o, le-leb slot_count slot h, chosen)
-  shifts_tried (none s o h) n = absurd (n refl)
+  shifts_tried (unsound s) e = simp (s, chosen) (passed_on e)
+  shifts_tried (beyond {place} s o h) e = rw (← o) (simp (s, lt-ltb place item_width h, chosen) (passed_on e))
+  shifts_tried (nowhere s o h) e = simp (s, le-ltb (outside there_at) item_width o, le-leb slot_count slot h, chosen) (passed_on e)
+  shifts_tried (none s o h) e = refused_not (sym e)
 
   module _ (p : Passed t (moved_to to no_item) slot) where
     pub shifts_empty : (slot_at t slot).filled ≡ false → shifts slot to t ≡ refused slot_empty slot
@@ -124,17 +132,23 @@ module _ (slot : ℕ) (to : Place) (t : Tally) where
           record { there = p.there; is_in_range = in_range_set t.slots slot here is_in_range (holding (moved_to to was)) (λ g. moved) }
 
 -- ---- what is handed back
-pub refused_as : (t : Tally) {s : Stepped} {o : Outcome Tally} {number place : ℕ} → s ≡ stepped t (refused number place) → o ≡ refused number place → s ≡ stepped t o
-refused_as t e f = e ∙ ap (stepped t) (sym f)
+abbrev pub handed_back : Tally → Result Tally Refusal → Stepped
+handed_back t (Ok after) = record { answer = Ok tt; tally = after }
+handed_back t (Err r) = record { answer = Err r; tally = t }
 
-pub done_as : (t : Tally) {after u : Tally} {o : Outcome Tally} → after ≡ u → o ≡ answered u → stepped after (answered after) ≡ stepped t o
-unfolding stepped
-done_as t {after} {u} e f = ap (λ v. stepped v (answered v)) e ∙ ap (λ o. stepped t o) (sym f)
+pub handed : (t : Tally) (after : Result Tally Refusal) → HandsBack t (paper_result after) (handed_back t after)
+handed t (Ok after) = record { answer_is = refl; tally_is = refl }
+handed t (Err r) = record { answer_is = refl; tally_is = refl }
 
-pub paper_stepped : (t : Tally) (o : Outcome Tally) → paper (stepped t o) ≡ o
-unfolding stepped
-paper_stepped t (answered after) = refl
-paper_stepped t (refused number place) = refl
+answer_known_by : (a b : Result (Unit {0}) Refusal) (t u : Tally) → paper_of a t ≡ paper_of b u → a ≡ b
+answer_known_by (Ok x) (Ok y) t u e = refl
+answer_known_by (Ok x) (Err s) t u e = refused_not (sym e)
+answer_known_by (Err r) (Ok y) t u e = refused_not e
+answer_known_by (Err r) (Err s) t u e = ap Err (refusal_same r s e)
 
-pub step_unique : {a b : Answer} {t u : Tally} {s : Stepped} → record { answer = a; tally = t } ≡ s → record { answer = b; tally = u } ≡ s → (a ≡ b) × (t ≡ u)
-step_unique e f = let same = e ∙ sym f in (ap (λ s. s.answer) same, ap (λ s. s.tally) same)
+pub handed_unique : {t : Tally} {o : Outcome Tally} {s s' : Stepped} → HandsBack t o s → HandsBack t o s' → s ≡ s'
+handed_unique {s} {s'} one other =
+    ap₂ (λ a u. record { answer = a; tally = u }) (answer_known_by s.answer s'.answer s.tally s'.tally (one.answer_is ∙ sym other.answer_is)) (only one.tally_is other.tally_is)
+
+pub step_unique : {a b : Result (Unit {0}) Refusal} {t u was : Tally} {o : Outcome Tally} → HandsBack was o (record { answer = a; tally = t }) → HandsBack was o (record { answer = b; tally = u }) → (a ≡ b) × (t ≡ u)
+step_unique one other = let same = handed_unique one other in (ap (λ s. s.answer) same, ap (λ s. s.tally) same)

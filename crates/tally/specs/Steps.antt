@@ -1,12 +1,12 @@
 -- The three steps: each takes a tally to the tally after it, or to its one refusal.
-use Rattle.std.specs.Prelude.{not, ℕ, ltb, leb, set}
+use Rattle.std.specs.Prelude.{not, ◌≡◌, ℕ, ltb, leb, set, Result, Ok, Err}
 use Rattle.arithmetic.specs.Choice.{when◌then◌else◌}
-use Rattle.ranges.specs.Outcome.{Outcome, answered, refused}
+use Rattle.ranges.specs.Outcome.{Outcome, answered, refused, value_after}
+use Rattle.ranges.specs.Reasons.{number_of}
 use Rattle.ranges.specs.Refusals.{out_of_range, no_such_slot, slot_taken, slot_empty, tally_unsound}
 use Rattle.ranges.specs.Sizes.{item_width}
+use Rattle.ranges.specs.declared.refusal.Refusal.{Refusal}
 use Rattle.tally.specs.Tally.{slot_count, no_item, freed, holding, slot_at, tally_of, outside, sound}
-use Rattle.tally.specs.declared.Answer.{Answer}
-use Rattle.tally.specs.declared.Answer.TheVariants.{Done, Refused}
 use Rattle.tally.specs.declared.Item.{Item}
 use Rattle.tally.specs.declared.Place.{Place}
 use Rattle.tally.specs.declared.Slot.{Slot}
@@ -47,15 +47,15 @@ shifts slot p t =
     else when not (slot_at t slot).filled then refused slot_empty slot
     else answered (with_slot t slot (holding (moved_to p (slot_at t slot).item)))
 
--- what a call hands back; "A refused step changes nothing."
-unfoldable pub stepped : Tally → Outcome Tally → Stepped
-stepped t (answered after) = record { answer = Done; tally = after }
-stepped t (refused number place) = record { answer = Refused (record { number = number; place = place }); tally = t }
-
--- and back: the paper's number and values for each answer, with the tally beside it
-abbrev pub paper_of : Answer → Tally → Outcome Tally
-paper_of Done after = answered after
-paper_of (Refused r) was = refused r.number r.place
+-- the paper's number and values for each answer, with the tally beside it
+abbrev pub paper_of : Result (Unit {0}) Refusal → Tally → Outcome Tally
+paper_of (Ok done) after = answered after
+paper_of (Err r) was = refused (number_of r.reason) r.place
 
 abbrev pub paper : Stepped → Outcome Tally
 paper s = paper_of s.answer s.tally
+
+-- what a call hands back; "A refused step changes nothing."
+pub record HandsBack (t : Tally) (outcome : Outcome Tally) (back : Stepped) : Type 0 where
+  pub answer_is : paper back ≡ outcome
+  pub tally_is : back.tally ≡ value_after (λ after. after) outcome t

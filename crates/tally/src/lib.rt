@@ -3,20 +3,22 @@
 #![tactic(auto)]
 
 ghost use Rattle.std.specs.Prelude.{◌≡◌};
-ghost use Rattle.loading.specs.Promise.{paper};
+ghost use Rattle.ranges.specs.Private.Bounds.{place_in};
+ghost use Rattle.ranges.specs.Reasons.{paper};
+ghost use Rattle.ranges.specs.Sizes.{item_width};
 ghost use Rattle.tally.specs.Condition.{condition_aboard};
 ghost use Rattle.tally.specs.Private.Trying.{Tried};
-ghost use Rattle.tally.specs.Steps.{moved_to, stepped, loads, discharges, shifts};
-ghost use Rattle.tally.specs.Tally.{no_item, empty, outside};
-ghost use Rattle.ranges.specs.Outcome.{answered, refused};
+ghost use Rattle.tally.specs.Steps.{moved_to, HandsBack, loads, discharges, shifts};
+ghost use Rattle.tally.specs.Tally.{empty, outside};
 
-use loading::Totals;
-use ranges::Refusal;
+use loading::{Condition, Totals};
+use ranges::{Reason, Record, Refusal};
 
+mod listed;
 mod listing;
 
 // kg, and x, y and z in mm, of any sign and size: the steps try them.
-#[derive(Clone, Copy)]
+#[derive(Clone, Copy, Debug, PartialEq, Eq)]
 pub struct Item {
     pub kg: i64,
     pub x: i64,
@@ -25,14 +27,15 @@ pub struct Item {
 }
 
 // Where an item stands, mm.
-#[derive(Clone, Copy)]
+#[derive(Clone, Copy, Debug, PartialEq, Eq)]
 pub struct Place {
     pub x: i64,
     pub y: i64,
     pub z: i64,
 }
 
-#[derive(Clone, Copy)]
+// A flag beside the item and not an `Option` of it: an empty slot that is lent with numbers in it keeps them, as the calls for C promise.
+#[derive(Clone, Copy, Debug, PartialEq, Eq)]
 pub struct Slot {
     pub filled: bool,
     pub item: Item,
@@ -41,118 +44,95 @@ pub struct Slot {
 // How many slots a tally has.
 pub const SLOTS: usize = 32;
 
-#[derive(Clone, Copy)]
+#[derive(Clone, Copy, Debug, PartialEq, Eq)]
 pub struct Tally {
     pub slots: [Slot; SLOTS],
     pub totals: Totals,
 }
 
-// What a step answers.
-#[derive(Clone, Copy)]
-pub enum Answer {
-    Done,
-    Refused(Refusal),
-}
-
 // What a step hands back: its answer, and the tally after it.
-#[derive(Clone, Copy)]
+#[derive(Clone, Copy, Debug, PartialEq, Eq)]
 pub struct Stepped {
-    pub answer: Answer,
+    pub answer: Result<(), Refusal>,
     pub tally: Tally,
 }
 
-fn no_item() -> Item
-    ensures { result ≡ no_item }
-{
-    Item {
+impl Item {
+    // What a freed slot holds.
+    const NONE: Item = Item {
         kg: 0,
         x: 0,
         y: 0,
         z: 0,
+    };
+
+    // The item at a new place.
+    fn moved_to(self, place: Place) -> Item
+        ensures { result ≡ moved_to place self }
+    {
+        Item {
+            kg: self.kg,
+            x: place.x,
+            y: place.y,
+            z: place.z,
+        }
+    }
+
+    // The place of the first of its numbers out of range.
+    fn first_outside(self) -> Option<usize>
+        ensures { result ≡ place_in item_width (outside self) }
+    {
+        ranges::first_outside(&[self.kg, self.x, self.y, self.z], Record::Item)
     }
 }
 
-// The item at a new place.
-fn moved_to(place: Place, item: Item) -> Item
-    ensures { result ≡ moved_to place item }
-{
-    Item {
-        kg: item.kg,
-        x: place.x,
-        y: place.y,
-        z: place.z,
+impl Slot {
+    const FREED: Slot = Slot {
+        filled: false,
+        item: Item::NONE,
+    };
+}
+
+impl Stepped {
+    // What is handed back of a tally: the one after the step, or the same again with its refusal.
+    fn new(tally: Tally, after: Result<Tally, Refusal>) -> Stepped
+        ensures { HandsBack tally (paper after) result }
+    {
+        match after {
+            Ok(tally) => Stepped {
+                answer: Ok(()),
+                tally,
+            },
+            Err(refusal) => Stepped {
+                answer: Err(refusal),
+                tally,
+            },
+        }
     }
 }
 
-// The place of the first of an item's numbers out of range, or 4.
-fn outside_of(item: Item) -> usize
-    ensures { result ≡ outside item }
-{
-    let numbers = [item.kg, item.x, item.y, item.z];
-    ranges::item_outside(&numbers)
-}
-
-fn done(tally: Tally) -> Stepped
-    ensures { result ≡ stepped tally (answered tally) }
-{
-    Stepped {
-        answer: Answer::Done,
-        tally,
-    }
-}
-
-// A refused step changes nothing.
-fn refused(tally: Tally, number: u64, place: usize) -> Stepped
-    ensures { result ≡ stepped tally (refused number place) }
-{
-    Stepped {
-        answer: Answer::Refused(Refusal { number, place }),
-        tally,
-    }
-}
-
-// The number of no refusal.
-const PASSED: u64 = 0;
-
-// The tests that a step begins with, in the paper's order: the first refusal, or one that is none.
-fn tried(tally: Tally, item: Item, slot: usize) -> Refusal
+// The tests that a step begins with, in the paper's order.
+fn tried(tally: Tally, item: Item, slot: usize) -> Result<(), Refusal>
     ensures { Tried tally item slot result }
 {
-    if !listing::is_sound(tally) {
-        return Refusal {
-            number: Refusal::TALLY_UNSOUND,
-            place: 0,
-        };
+    if !tally.is_sound() {
+        return Err(Reason::TallyUnsound.at(0));
     }
-    let outside = outside_of(item);
-    if outside < ranges::ITEM_WIDTH {
-        return Refusal {
-            number: Refusal::OUT_OF_RANGE,
-            place: outside,
-        };
+    if let Some(place) = item.first_outside() {
+        return Err(Reason::OutOfRange.at(place));
     }
     if SLOTS <= slot {
-        return Refusal {
-            number: Refusal::NO_SUCH_SLOT,
-            place: slot,
-        };
+        return Err(Reason::NoSuchSlot.at(slot));
     }
-    Refusal {
-        number: PASSED,
-        place: 0,
-    }
+    Ok(())
 }
 
 // A tally with nothing aboard.
 pub fn empty() -> Tally
     ensures { result ≡ empty }
 {
-    let item = no_item();
     Tally {
-        slots: [Slot {
-            filled: false,
-            item,
-        }; SLOTS],
+        slots: [Slot::FREED; SLOTS],
         totals: Totals {
             weight: 0,
             longitudinal: 0,
@@ -162,97 +142,95 @@ pub fn empty() -> Tally
     }
 }
 
-// Loads an item into an empty slot.
-pub fn loaded(tally: Tally, slot: usize, item: Item) -> Stepped
-    ensures { result ≡ stepped tally (loads slot item tally) }
+// The tally after a load, or its refusal.
+fn after_load(tally: Tally, slot: usize, item: Item) -> Result<Tally, Refusal>
+    ensures { paper result ≡ loads slot item tally }
 {
-    let refusal = tried(tally, item, slot);
-    if refusal.number != PASSED {
-        return refused(tally, refusal.number, refusal.place);
-    }
-    let slots = tally.slots;
-    let was = slots[slot];
+    tried(tally, item, slot)?;
+    let was = tally.slots[slot];
     if was.filled {
-        return refused(tally, Refusal::SLOT_TAKEN, slot);
+        return Err(Reason::SlotTaken.at(slot));
     }
-    done(listing::with_slot(tally, slot, Slot { filled: true, item }))
+    Ok(tally.with_slot(slot, Slot { filled: true, item }))
 }
 
-// Discharges a slot, which holds zeros then: the order has no item, and zeros are in range.
-pub fn discharged(tally: Tally, slot: usize) -> Stepped
-    ensures { result ≡ stepped tally (discharges slot tally) }
+// The same after a discharge: the order has no item, and zeros are in range.
+fn after_discharge(tally: Tally, slot: usize) -> Result<Tally, Refusal>
+    ensures { paper result ≡ discharges slot tally }
 {
-    let item = no_item();
-    let refusal = tried(tally, item, slot);
-    if refusal.number != PASSED {
-        return refused(tally, refusal.number, refusal.place);
-    }
-    let slots = tally.slots;
-    let was = slots[slot];
+    tried(tally, Item::NONE, slot)?;
+    let was = tally.slots[slot];
     if !was.filled {
-        return refused(tally, Refusal::SLOT_EMPTY, slot);
+        return Err(Reason::SlotEmpty.at(slot));
     }
-    let freed = Slot {
-        filled: false,
-        item,
-    };
-    done(listing::with_slot(tally, slot, freed))
+    Ok(tally.with_slot(slot, Slot::FREED))
+}
+
+// The same after a shift.
+fn after_shift(tally: Tally, slot: usize, place: Place) -> Result<Tally, Refusal>
+    ensures { paper result ≡ shifts slot place tally }
+{
+    tried(tally, Item::NONE.moved_to(place), slot)?;
+    let was = tally.slots[slot];
+    if !was.filled {
+        return Err(Reason::SlotEmpty.at(slot));
+    }
+    let item = was.item.moved_to(place);
+    Ok(tally.with_slot(slot, Slot { filled: true, item }))
+}
+
+// Loads an item into an empty slot.
+pub fn loaded(tally: Tally, slot: usize, item: Item) -> Stepped
+    ensures { HandsBack tally (loads slot item tally) result }
+{
+    Stepped::new(tally, after_load(tally, slot, item))
+}
+
+// Discharges a slot, which holds zeros then.
+pub fn discharged(tally: Tally, slot: usize) -> Stepped
+    ensures { HandsBack tally (discharges slot tally) result }
+{
+    Stepped::new(tally, after_discharge(tally, slot))
 }
 
 // Shifts a slot's item to a new place.
 pub fn shifted(tally: Tally, slot: usize, place: Place) -> Stepped
-    ensures { result ≡ stepped tally (shifts slot place tally) }
+    ensures { HandsBack tally (shifts slot place tally) result }
 {
-    let refusal = tried(tally, moved_to(place, no_item()), slot);
-    if refusal.number != PASSED {
-        return refused(tally, refusal.number, refusal.place);
-    }
-    let slots = tally.slots;
-    let was = slots[slot];
-    if !was.filled {
-        return refused(tally, Refusal::SLOT_EMPTY, slot);
-    }
-    let item = moved_to(place, was.item);
-    done(listing::with_slot(tally, slot, Slot { filled: true, item }))
+    Stepped::new(tally, after_shift(tally, slot, place))
 }
 
 // The condition of the items aboard and these tanks over the rows of a hull.
-pub fn condition_of(tally: Tally, tanks: &[i64], rows: &[u64]) -> loading::Answer
+pub fn condition_of(tally: Tally, tanks: &[i64], rows: &[u64]) -> Result<Condition, Refusal>
     ensures { paper result ≡ condition_aboard tally tanks.now rows.now }
 {
-    if !listing::is_sound(tally) {
-        return loading::Answer::Refused(Refusal {
-            number: Refusal::TALLY_UNSOUND,
-            place: 0,
-        });
+    if !tally.is_sound() {
+        return Err(Reason::TallyUnsound.at(0));
     }
-    let slots = tally.slots;
-    let listed = listing::items_aboard(slots);
-    let numbers = listed.numbers;
-    let count = listed.count;
-    loading::condition_of(&numbers[..count], tanks, rows)
+    let listed = listing::items_aboard(tally.slots);
+    loading::condition_of(listed.items(), tanks, rows)
 }
 
 // The lent tally, changed where it stands: each calls the step of its name by value, and puts its tally back.
 
-pub fn load(tally: &mut Tally, slot: usize, item: Item) -> Answer
-    ensures { (record { answer = result; tally = tally.new }) ≡ stepped tally.old (loads slot item tally.old) }
+pub fn load(tally: &mut Tally, slot: usize, item: Item) -> Result<(), Refusal>
+    ensures { HandsBack tally.old (loads slot item tally.old) (record { answer = result; tally = tally.new }) }
 {
     let stepped = loaded(*tally, slot, item);
     *tally = stepped.tally;
     stepped.answer
 }
 
-pub fn discharge(tally: &mut Tally, slot: usize) -> Answer
-    ensures { (record { answer = result; tally = tally.new }) ≡ stepped tally.old (discharges slot tally.old) }
+pub fn discharge(tally: &mut Tally, slot: usize) -> Result<(), Refusal>
+    ensures { HandsBack tally.old (discharges slot tally.old) (record { answer = result; tally = tally.new }) }
 {
     let stepped = discharged(*tally, slot);
     *tally = stepped.tally;
     stepped.answer
 }
 
-pub fn shift(tally: &mut Tally, slot: usize, place: Place) -> Answer
-    ensures { (record { answer = result; tally = tally.new }) ≡ stepped tally.old (shifts slot place tally.old) }
+pub fn shift(tally: &mut Tally, slot: usize, place: Place) -> Result<(), Refusal>
+    ensures { HandsBack tally.old (shifts slot place tally.old) (record { answer = result; tally = tally.new }) }
 {
     let stepped = shifted(*tally, slot, place);
     *tally = stepped.tally;
