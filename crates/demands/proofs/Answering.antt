@@ -55,13 +55,13 @@ use Rattle.loading.specs.declared.Reading.{Reading}
 use Rattle.loading.specs.declared.Totals.{Totals}
 use Rattle.tally.specs.Condition.{condition_aboard}
 use Rattle.tally.specs.History.{Step, load, discharge, shift, taken}
-use Rattle.tally.specs.Steps.{stepped}
+use Rattle.tally.specs.Steps.{HandsBack}
 use Rattle.tally.specs.Steps as Steps
 use Rattle.tally.specs.declared.Stepped.{Stepped}
 use Rattle.tally.specs.declared.Tally.{Tally}
 use Rattle.tally.proofs.Histories.{refused_unchanged}
 use Rattle.tally.proofs.Numbered as Tally
-use Rattle.tally.proofs.Stepping.{paper_stepped}
+use Rattle.tally.proofs.Stepping.{handed_back, handed, handed_unique}
 use Rattle.report.specs.Promise.{Reports, report_by}
 use Rattle.report.specs.Sheet.{sheet_by}
 use Rattle.report.proofs.Numbered.{report_numbered}
@@ -242,15 +242,16 @@ step_numbered (load slot i) t = Tally.loads_numbered slot i t
 step_numbered (discharge slot) t = Tally.discharges_numbered slot t
 step_numbered (shift slot p) t = Tally.shifts_numbered slot p t
 
-pub step_answers : (step : Step) (t : Tally) → AnswersOrRefuses (λ (back : Stepped). back ≡ stepped t (taken step t)) Steps.paper (λ back. back.tally ≡ t)
+pub step_answers : (step : Step) (t : Tally) → AnswersOrRefuses (HandsBack t (taken step t)) Steps.paper (λ back. back.tally ≡ t)
 step_answers step t =
-    let is = paper_stepped t (taken step t) in
+    let a = told (taken step t) (step_numbered step t) in
+    let kept = subst (λ o. HandsBack t o (handed_back t a.answer)) a.is (handed t a.answer) in
     record {
-      back = stepped t (taken step t);
-      kept = refl;
-      only = λ other k. k;
-      numbered = subst Numbered (sym is) (step_numbered step t);
-      untouched = λ e. refused_unchanged (sym is ∙ e);
+      back = handed_back t a.answer;
+      kept = kept;
+      only = λ other k. handed_unique k kept;
+      numbered = subst Numbered (sym kept.answer_is) (step_numbered step t);
+      untouched = λ e. refused_unchanged kept (sym kept.answer_is ∙ e);
     }
 
 pub aboard_answers : (t : Tally) (tanks : List ℤ) (rows : List ℕ) → AnswersOrRefuses (λ (answer : Answer Condition). paper answer ≡ condition_aboard t tanks rows) paper (λ answer. Unit)

@@ -101,7 +101,7 @@ demand_3 = record {
 
 running_tally : RunningTally
 running_tally = record {
-  steps_go_on = λ step t. stepped_on t (taken step t);
+  steps_go_on = λ step t back handed. stepped_on handed;
   totals_are_the_lists = totals_after;
   answers_are_the_lists = answers_alike;
   never_unsound = always_sound;

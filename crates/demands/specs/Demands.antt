@@ -39,7 +39,7 @@ use Rattle.loading.specs.declared.Reading.{Reading}
 use Rattle.loading.specs.declared.Totals.{Totals}
 use Rattle.tally.specs.Condition.{condition_aboard}
 use Rattle.tally.specs.History.{Step, taken}
-use Rattle.tally.specs.Steps.{stepped}
+use Rattle.tally.specs.Steps.{HandsBack}
 use Rattle.tally.specs.Steps as Steps
 use Rattle.tally.specs.declared.Stepped.{Stepped}
 use Rattle.tally.specs.declared.Tally.{Tally}
@@ -73,7 +73,7 @@ pub record Demand1 : Type 1 where
       → AnswersOrRefuses (λ (back : Answer Profile × List ℤ). MakesProfile kn km kg gz back.1 back.0) (λ back. paper back.0) (λ back. back.1 ≡ gz)
   -- a step of a tally hands the tally back; lent, it leaves that one
   pub of_a_step : (step : Step) (t : Tally)
-      → AnswersOrRefuses (λ (back : Stepped). back ≡ stepped t (taken step t)) Steps.paper (λ back. back.tally ≡ t)
+      → AnswersOrRefuses (HandsBack t (taken step t)) Steps.paper (λ back. back.tally ≡ t)
   -- these are lent nothing for writing
   pub of_the_display : (row : Row)
       → AnswersOrRefuses (λ (answer : Answer Figures). paper answer ≡ display_of row) paper (λ answer. Unit)

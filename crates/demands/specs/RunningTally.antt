@@ -5,14 +5,15 @@ use Rattle.ranges.specs.Sizes.{item_width}
 use Rattle.loading.specs.Condition.{condition_of}
 use Rattle.tally.specs.Condition.{condition_aboard}
 use Rattle.tally.specs.History.{Step, taken, items_on, unless_refused, tally_after, list_after, answer_after, list_answer_after}
-use Rattle.tally.specs.Steps.{with_slot, loads, discharges, stepped}
+use Rattle.tally.specs.Steps.{with_slot, loads, discharges, HandsBack}
 use Rattle.tally.specs.Tally.{slot_count, freed, holding, slot_at, table_of, added_up, outside, sound}
 use Rattle.tally.specs.declared.Item.{Item}
+use Rattle.tally.specs.declared.Stepped.{Stepped}
 use Rattle.tally.specs.declared.Tally.{Tally}
 
 pub record RunningTally : Type 0 where
   -- the tally that a call hands back is the one that the history goes on with
-  pub steps_go_on : (step : Step) (t : Tally) → (stepped t (taken step t)).tally ≡ unless_refused (taken step t) t
+  pub steps_go_on : (step : Step) (t : Tally) (back : Stepped) → HandsBack t (taken step t) back → back.tally ≡ unless_refused (taken step t) t
   -- "After any sequence from an empty tally, weight and the three moments are those of the items then aboard, found by adding up the list of what was loaded
   -- and not discharged, each at its last place."
   pub totals_are_the_lists : (history : List Step) → (tally_after history).totals ≡ added_up (items_on (list_after history))

@@ -1,11 +1,11 @@
 -- Fields and lines, one after another.
---     fields_append          the fields of two lists
---     wholes_more            one whole number more, in the code's `i + 1`
---     row_lines_more          one row's line more
---     rows_more              the same of a text that they are put into
---     mark_is                the mark of a pass as the code's number
+--     fields_none, fields_more      no field; one field more
+--     rows_none, rows_more, rows_all      no R line; one R line more; all of them
+--     few_line                      a letter, the fields and the line feed
+--     mark_is                       the mark of a pass as the code's number
+--     condition_line_is             the pieces of the C line
 -- Assumes nothing.
-use Prim.Native.Nat.{ℕ, zero, suc, ◌+◌, ◌*◌, ◌-◌, ◌≤◌, ◌<◌}
+use Prim.Native.Nat.{ℕ, zero, suc, ◌+◌, ◌*◌, ◌/◌, ◌≤◌, ◌<◌}
 use mathlib.Core.Bool.{Bool, true, false}
 use mathlib.Core.Path.{◌≡◌, refl, sym, ap, ◌∙◌}
 use mathlib.Core.List.{List, [], ◌∷◌, ◌++◌, map, map-append, append_assoc, append-nil}
@@ -13,20 +13,23 @@ use native.Mathlib.Nat.{add-zero}
 use native.Mathlib.Numerals.{add-one}
 use native.Mathlib.Omega.{arith}
 use lib.IntN.{ℤ, pos}
-use lib.ListN.{length, take, drop, get_or}
-use lib.Seq.{take-length}
+use lib.ListN.{length, take, drop, get_or, length-append, length-drop}
+use lib.Seq.{take-length, take_at, drop_at, drop-drop}
 use mir.Val.{bool_byte}
 use Rattle.arithmetic.proofs.Parts.{take_step}
 use Rattle.hydrostatics.specs.Row.{numbers_of}
 use Rattle.hydrostatics.specs.Usable.{row_in}
 use Rattle.hydrostatics.proofs.Reading.{seven_are}
 use Rattle.loading.specs.declared.Condition.{Condition}
+use Rattle.numerals.specs.Pieces.{Puts}
+use Rattle.numerals.specs.declared.lines.Lines.{Lines}
+use Rattle.numerals.proofs.Pieces.{puts_none}
 use Rattle.offsets.specs.Tokens.{space, line_feed}
 use Rattle.ranges.specs.Sizes.{row_width}
-use Rattle.report.specs.Lines.{field, fields, condition_letter, line_of, row_line, word, mark, condition_line}
-use Rattle.report.specs.Private.Putting.{Ready, Puts, most_field, most_word, most_row_line, most_before_mark, most_condition_line}
+use Rattle.report.specs.Lines.{field, fields, row_letter, condition_letter, line_of, row_line, word, mark, condition_line}
+use Rattle.report.specs.Private.Putting.{PutsFew, most_field, most_line}
 use Rattle.report.specs.Sheet.{row_lines}
-use Rattle.report.proofs.Pieces.{puts_none, puts_le, puts_both, ready_next}
+use Rattle.report.proofs.Pieces.{few_of, few_both}
 
 pub fields_append : (a b : List ℤ) → fields (a ++ b) ≡ fields a ++ fields b
 unfolding fields
@@ -37,35 +40,29 @@ pub field_one : (v : ℤ) → fields (v ∷ []) ≡ field v
 unfolding fields
 field_one v = append-nil (field v)
 
--- the fields of one number more
-fields_step : (numbers : List ℕ) (i : ℕ) → i < length numbers → fields (map pos (take (i + 1) numbers)) ≡ fields (map pos (take i numbers)) ++ field (pos (get_or numbers i 0))
-fields_step numbers i h =
-    ap (λ l. fields (map pos l)) (take_step numbers i 0 h)
-    ∙ ap fields (map-append pos (take i numbers) (get_or numbers i 0 ∷ []))
-    ∙ fields_append (map pos (take i numbers)) (pos (get_or numbers i 0) ∷ [])
-    ∙ ap (λ l. fields (map pos (take i numbers)) ++ l) (field_one (pos (get_or numbers i 0)))
-
-pub wholes_none : (was : List ℕ) (at : ℕ) → Puts 0 (fields []) was at was at
+pub fields_none : (l : Lines) → PutsFew 0 (fields []) l l
 unfolding fields
-wholes_none was at = puts_none was at
+fields_none l = record { few = omega arith; puts = puts_none l }
 
-pub wholes_all :
-    (numbers : List ℕ) (i : ℕ) {was after : List ℕ} {at next : ℕ}
-    → i ≡ length numbers
-    → Puts (most_field * i) (fields (map pos (take i numbers))) was at after next
-    → Puts (most_field * length numbers) (fields (map pos numbers)) was at after next
-wholes_all numbers i e p = rw (e, take-length) at p
+-- the fields of the numbers before place i, and of the number there
+module _ {A : Type 0} (value : A → ℤ) (numbers : List A) (i : ℕ) {was now : Lines} where
+  pub fields_more : {next : Lines} (x : A) → i < length numbers → x ≡ get_or numbers i x
+      → PutsFew (most_field * i) (fields (map value (take i numbers))) was now
+      → PutsFew most_field (field (value x)) now next
+      → PutsFew (most_field * (i + 1)) (fields (map value (take (i + 1) numbers))) was next
+  fields_more x h is p q =
+      let step : fields (map value (take (i + 1) numbers)) ≡ fields (map value (take i numbers)) ++ field (value x) =
+      rw (take_step numbers i x h, ← is, map-append, fields_append, field_one) refl in
+      let count : most_field * (i + 1) ≡ most_field * i + most_field = omega arith in
+      rw (step, count) (few_both p q)
 
-pub wholes_more :
-    (numbers : List ℕ) (i : ℕ) {was mid end : List ℕ} {at r last : ℕ}
-    → i < length numbers
-    → Ready (most_field * length numbers) was at
-    → Puts (most_field * i) (fields (map pos (take i numbers))) was at mid r
-    → Puts most_field (field (pos (get_or numbers i 0))) mid r end last
-    → Puts (most_field * (i + 1)) (fields (map pos (take (i + 1) numbers))) was at end last
-wholes_more numbers i h ready p q =
-    let next : most_field * (i + 1) ≡ most_field * i + most_field = omega arith in
-    rw (fields_step numbers i h, next) (puts_both p (omega (arith, ready.room)) q)
+  pub fields_all : i ≡ length numbers → PutsFew (most_field * i) (fields (map value (take i numbers))) was now → PutsFew (most_field * length numbers) (fields (map value numbers)) was now
+  fields_all e p = rw (e, take-length) at p
+
+-- ---- whole lines
+-- a letter, the fields, and the line feed
+pub few_line : {most letter : ℕ} {said : List ℕ} {was start end is : Lines} → Puts (letter ∷ []) was start → PutsFew most said start end → Puts (line_feed ∷ []) end is → PutsFew (1 + most + 1) (line_of letter said) was is
+few_line {letter = letter} {said = said} p q e = rw (append_assoc (letter ∷ []) said (line_feed ∷ [])) at (few_both (few_both (few_of p) q) (few_of e))
 
 row_lines_from : (rows : List ℕ) (from count : ℕ) → row_lines rows from (suc count) ≡ row_lines rows from count ++ row_line (row_in rows (from + count))
 unfolding row_lines
@@ -76,96 +73,67 @@ row_lines_from rows from (suc count) =
     ∙ sym (append_assoc (row_line (row_in rows from)) (row_lines rows (from + 1) count) (row_line (row_in rows (from + 1 + count))))
     ∙ ap (λ k. (row_line (row_in rows from) ++ row_lines rows (from + 1) count) ++ row_line (row_in rows k)) same
 
-pub row_lines_more : (rows : List ℕ) (count : ℕ) → row_lines rows 0 (count + 1) ≡ row_lines rows 0 count ++ row_line (row_in rows count)
+row_lines_more : (rows : List ℕ) (count : ℕ) → row_lines rows 0 (count + 1) ≡ row_lines rows 0 count ++ row_line (row_in rows count)
 row_lines_more rows count =
     ap (row_lines rows 0) (add-one count) ∙ row_lines_from rows 0 count ∙ ap (λ k. row_lines rows 0 count ++ row_line (row_in rows k)) (omega arith)
 
-pub rows_none : (rows was : List ℕ) → Puts 0 (row_lines rows 0 0) was 0 was 0
+pub rows_none : (rows : List ℕ) (l : Lines) → PutsFew 0 (row_lines rows 0 0) l l
 unfolding row_lines
-rows_none rows was = puts_none was 0
+rows_none rows l = record { few = omega arith; puts = puts_none l }
 
-pub rows_more :
-    (rows : List ℕ) (count i : ℕ) {was mid end : List ℕ} {r last : ℕ}
-    → i < count
-    → Ready (most_row_line * count) was 0
-    → Puts (most_row_line * i) (row_lines rows 0 i) was 0 mid r
-    → Puts most_row_line (row_line (row_in rows i)) mid r end last
-    → Puts (most_row_line * (i + 1)) (row_lines rows 0 (i + 1)) was 0 end last
-rows_more rows count i h ready p q =
-    let next : most_row_line * (i + 1) ≡ most_row_line * i + most_row_line = omega arith in
-    rw (row_lines_more rows i, next) (puts_both p (omega (arith, ready.room)) q)
+-- so many rows are put, and the rest of the table is left
+pub record RowsPut (rows : List ℕ) (k : ℕ) (rest : List ℕ) (was now : Lines) : Type 0 where
+  pub rest_is : rest ≡ drop (row_width * k) rows
+  pub inside : row_width * k ≤ length rows
+  pub put : PutsFew (most_line row_width * k) (row_lines rows 0 k) was now
 
+pub rows_begin : (rows : List ℕ) (l : Lines) → RowsPut rows 0 rows l l
+rows_begin rows l = record { rest_is = refl; inside = omega arith; put = rows_none rows l }
+
+module _ {rows rest : List ℕ} {k : ℕ} {was now : Lines} (so : RowsPut rows k rest was now) where
+  left : length rest + row_width * k ≡ length rows
+  left = omega (arith, ap length so.rest_is, length-drop (row_width * k) rows, so.inside)
+
+  module _ (front more : List ℕ) (e : rest ≡ front ++ more) (seven : length front ≡ row_width) where
+    pub row_left : row_width * k + row_width ≤ length rows
+    row_left = omega (arith, left, ap length e, length-append front more)
+
+    row_is : front ≡ numbers_of (row_in rows k)
+    row_is = sym (take_at front more row_width seven) ∙ ap (take row_width) (sym e ∙ so.rest_is) ∙ seven_are rows k row_left
+
+    pub rows_more : {next : Lines} → PutsFew (most_line (length front)) (line_of row_letter (fields (map pos front))) now next → RowsPut rows (k + 1) more was next
+    unfolding row_line
+    rows_more line =
+        let count : most_line row_width * (k + 1) ≡ most_line row_width * k + most_line row_width = omega arith in
+        let on : row_width * (k + 1) ≡ row_width * k + row_width = omega arith in
+        record {
+          rest_is = sym (drop_at front more row_width seven) ∙ ap (drop row_width) (sym e ∙ so.rest_is) ∙ rw (drop-drop, on) refl;
+          inside = omega (arith, row_left);
+          put = rw (row_lines_more rows k, count) (few_both so.put (rw row_is at line));
+        }
+
+  -- none is left
+  pub rows_all : length rest < row_width → PutsFew (most_line row_width * (length rows / row_width)) (row_lines rows 0 (length rows / row_width)) was now
+  rows_all few = let count : length rows / row_width ≡ k = omega (arith, left) in rw count so.put
+
+-- ---- the C line
 pub mark_is : (t : Bool) → mark t ≡ bool_byte t
 mark_is true = refl
 mark_is false = refl
 
--- ---- whole lines
--- a letter, the fields, and the line feed
-pub puts_line :
-    {all most letter : ℕ} {said was mid end after : List ℕ} {at start next last : ℕ}
-    → Ready all was at
-    → most + 2 ≤ all
-    → Puts 1 (letter ∷ []) was at mid start
-    → Puts most said mid start end next
-    → Puts 1 (line_feed ∷ []) end next after last
-    → Puts all (line_of letter said) was at after last
-puts_line {all} {most} ready h p q e =
-    puts_le (puts_both (puts_both p (omega (arith, ready.room)) q) (omega (arith, ready.room)) e) all (omega arith)
-
--- a row's part of the table, as it is lent
-pub row_fields :
-    (rows : List ℕ) (r : ℕ) {was after : List ℕ} {at next : ℕ}
-    → row_width * r + row_width ≤ length rows
-    → Puts (most_field * length (take (row_width * r + row_width - row_width * r) (drop (row_width * r) rows))) (fields (map pos (take (row_width * r + row_width - row_width * r) (drop (row_width * r) rows)))) was at after next
-    → Puts (row_width * most_field) (fields (map pos (numbers_of (row_in rows r)))) was at after next
-row_fields rows r h p =
-    let count : row_width * r + row_width - row_width * r ≡ row_width = omega arith in
-    rw (count, seven_are rows r h) at p
-
-module _ {was t1 t2 t3 t4 t5 t6 : List ℕ} {at n1 n2 n3 n4 n5 n6 : ℕ} {w1 w2 w3 w4 w5 w6 : List ℕ}
-    (ready : Ready most_condition_line was at)
-    (letter : Puts 1 w1 was at t1 n1)
-    (six : Puts (6 * most_field) w2 t1 n1 t2 n2)
-    (gm : Puts most_field w3 t2 n2 t3 n3)
-    (moment : Puts most_field w4 t3 n3 t4 n4)
-    (gap : Puts 1 w5 t4 n4 t5 n5)
-    (outcome : Puts most_word w6 t5 n5 t6 n6) where
-  -- what stands before the mark
-  before_mark : Puts most_before_mark (((((w1 ++ w2) ++ w3) ++ w4) ++ w5) ++ w6) was at t6 n6
-  before_mark =
-      let room : at + most_condition_line ≤ length was = ready.room in
-      puts_both (puts_both (puts_both (puts_both (puts_both letter (omega arith) six) (omega arith) gm) (omega arith) moment) (omega arith) gap) (omega arith) outcome
-
-  pub room_for_mark : Ready (most_field + 1) t6 n6
-  room_for_mark = ready_next before_mark ready (omega arith)
-
-  module _ {t7 t8 : List ℕ} {n7 n8 : ℕ} {w7 w8 : List ℕ} (mark : Puts most_field w7 t6 n6 t7 n7) (feed : Puts 1 w8 t7 n7 t8 n8) where
-    pub puts_eight : Puts most_condition_line (((((((w1 ++ w2) ++ w3) ++ w4) ++ w5) ++ w6) ++ w7) ++ w8) was at t8 n8
-    puts_eight =
-        let room : at + most_condition_line ≤ length was = ready.room in
-        puts_both (puts_both before_mark (omega arith) mark) (omega arith) feed
-
 regroup :
-    (six gm moment outcome passes : List ℕ)
-    → (((((((condition_letter ∷ []) ++ six) ++ gm) ++ moment) ++ (space ∷ [])) ++ outcome) ++ passes) ++ (line_feed ∷ []) ≡ line_of condition_letter (((six ++ (gm ++ moment)) ++ (space ∷ outcome)) ++ passes)
-regroup six gm moment outcome passes = simp append_assoc
-
-fields_two : (v w : ℤ) → fields (v ∷ w ∷ []) ≡ field v ++ field w
-unfolding fields
-fields_two v w = ap (λ l. field v ++ l) (append-nil (field w))
+    (six two outcome passes : List ℕ)
+    → ((((((condition_letter ∷ []) ++ six) ++ two) ++ (space ∷ [])) ++ outcome) ++ passes) ++ (line_feed ∷ []) ≡ line_of condition_letter (((six ++ two) ++ (space ∷ outcome)) ++ passes)
+regroup six two outcome passes = simp append_assoc
 
 module _ (c : Condition) where
   abbrev pub wholes : List ℤ
   wholes = pos c.weight ∷ pos c.draft ∷ pos c.km ∷ pos c.lcg ∷ pos c.vertical_moment ∷ pos c.free_surface ∷ []
 
   pub condition_line_is :
-      (((((((condition_letter ∷ []) ++ fields wholes) ++ field c.gm) ++ field c.transverse_moment) ++ (space ∷ [])) ++ word c.heel) ++ fields (pos (bool_byte c.passes) ∷ [])) ++ (line_feed ∷ [])
+      ((((((condition_letter ∷ []) ++ fields wholes) ++ fields (c.gm ∷ c.transverse_moment ∷ [])) ++ (space ∷ [])) ++ word c.heel) ++ field (pos (bool_byte c.passes))) ++ (line_feed ∷ [])
       ≡ condition_line c
   unfolding condition_line
   condition_line_is =
-      let marked : fields (pos (bool_byte c.passes) ∷ []) ≡ field (pos (mark c.passes)) = field_one (pos (bool_byte c.passes)) ∙ ap (λ n. field (pos n)) (sym (mark_is c.passes)) in
-      let eight : fields (wholes ++ (c.gm ∷ c.transverse_moment ∷ [])) ≡ fields wholes ++ (field c.gm ++ field c.transverse_moment) =
-      fields_append wholes (c.gm ∷ c.transverse_moment ∷ []) ∙ ap (λ l. fields wholes ++ l) (fields_two c.gm c.transverse_moment) in
-      regroup (fields wholes) (field c.gm) (field c.transverse_moment) (word c.heel) (fields (pos (bool_byte c.passes) ∷ []))
-      ∙ ap (λ l. line_of condition_letter (((fields wholes ++ (field c.gm ++ field c.transverse_moment)) ++ (space ∷ word c.heel)) ++ l)) marked
-      ∙ ap (λ l. line_of condition_letter ((l ++ (space ∷ word c.heel)) ++ field (pos (mark c.passes)))) (sym eight)
+      regroup (fields wholes) (fields (c.gm ∷ c.transverse_moment ∷ [])) (word c.heel) (field (pos (bool_byte c.passes)))
+      ∙ rw (← fields_append, mark_is) refl

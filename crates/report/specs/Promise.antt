@@ -1,14 +1,14 @@
 -- What the call that makes a sheet promises, of every input.
-use Rattle.std.specs.Prelude.{ℕ, ◌≡◌, List, ltb, length}
+use Rattle.std.specs.Prelude.{ℕ, ◌≡◌, Result, List, ltb, length}
 use Rattle.arithmetic.specs.Choice.{when◌then◌else◌}
 use Rattle.arithmetic.specs.Room.{laid}
 use Rattle.ranges.specs.Outcome.{Outcome, answered, refused}
+use Rattle.ranges.specs.Reasons.{paper}
 use Rattle.ranges.specs.Refusals.{room_too_short}
+use Rattle.ranges.specs.declared.refusal.Refusal.{Refusal}
 use Rattle.loading.specs.Paper.{default_reading}
 use Rattle.loading.specs.declared.Reading.{Reading}
 use Rattle.report.specs.Sheet.{sheet_by}
-use Rattle.report.specs.declared.Report.{Report}
-use Rattle.report.specs.declared.Report.TheVariants.{Lines, Refused}
 
 -- the length of the sheet's lines; 14 where the room is shorter
 unfoldable pub report_by : Reading → List ℕ → ℕ → Outcome ℕ
@@ -18,11 +18,6 @@ report_by reading text room = when ltb room (length (sheet_by reading text)) the
 abbrev pub report_of : List ℕ → ℕ → Outcome ℕ
 report_of = report_by default_reading
 
--- the number and values of each answer
-abbrev pub paper : Report → Outcome ℕ
-paper (Lines count) = answered count
-paper (Refused r) = refused r.number r.place
-
-pub record Reports (reading : Reading) (text room room_left : List ℕ) (answer : Report) : Type 0 where
+pub record Reports (reading : Reading) (text room room_left : List ℕ) (answer : Result ℕ Refusal) : Type 0 where
   pub answer_is : paper answer ≡ report_by reading text (length room)
   pub left : room_left ≡ laid (sheet_by reading text) room

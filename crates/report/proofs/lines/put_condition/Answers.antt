@@ -1,23 +1,31 @@
--- Eight pieces, one after another, are the C line. Assumes nothing.
+-- Seven pieces, one after another, are the C line. Assumes nothing.
 use native.Mathlib.Omega.{arith}
 use Rattle.arithmetic.proofs.Crossing.{back_is}
-use Rattle.report.proofs.Fields.{room_for_mark, puts_eight, condition_line_is}
-use Rattle.report.proofs.Pieces.{ready_le, ready_next, puts_length}
+use Rattle.report.specs.Private.Putting.{most_word}
+use Rattle.report.proofs.Fields.{condition_line_is}
+use Rattle.report.proofs.Pieces.{few_of, few_le, few_both, room_next}
 use Rattle.report.proofs.lines.put_condition.Goals as goal
 
-pub put_wholes-after_mark-requires : goal.put_wholes-after_mark-requires
-put_wholes-after_mark-requires c = ready_le (omega arith) (room_for_mark c.requires c.put-start.ensures c.put_wholes-after_wholes.ensures c.put_number-after_gm.ensures c.put_number-after_moment.ensures c.put-before_word.ensures c.put_word-after_word.ensures)
-
 pub put-requires : goal.put-requires
-put-requires c = ready_next c.put_wholes-after_mark.ensures (room_for_mark c.requires c.put-start.ensures c.put_wholes-after_wholes.ensures c.put_number-after_gm.ensures c.put_number-after_moment.ensures c.put-before_word.ensures c.put_word-after_word.ensures) (omega arith)
+put-requires c =
+    let before = few_both (few_both (few_both (few_of c.put_byte.ensures) c.put_fields.ensures) c.put_fields-2.ensures) (few_of c.put_byte-2.ensures) in
+    room_next {more = _} before c.requires (omega (arith, c.word.ensures.few))
+
+pub put_field-requires : goal.put_field-requires
+put_field-requires c =
+    let before = few_both (few_both (few_both (few_of c.put_byte.ensures) c.put_fields.ensures) c.put_fields-2.ensures) (few_of c.put_byte-2.ensures) in
+    room_next (few_both before (few_of c.put.ensures)) c.requires (omega (arith, c.word.ensures.few))
+
+pub put-requires-2 : goal.put-requires-2
+put-requires-2 c =
+    let before = few_both (few_both (few_both (few_of c.put_byte.ensures) c.put_fields.ensures) c.put_fields-2.ensures) (few_of c.put_byte-2.ensures) in
+    room_next (few_both (few_both before (few_of c.put.ensures)) c.put_field.ensures) c.requires (omega (arith, c.word.ensures.few))
 
 pub returns : goal.returns
 returns c =
     let told = c.struct_told-1.given in
-    let gm = rw (back_is {v = c.args.c.gm} (record { sfits = told.1.1.1.1.1.1.0.1 })) at c.put_number-after_gm.ensures in
-    let moment = rw (back_is {v = c.args.c.transverse_moment} (record { sfits = told.1.1.1.1.1.1.1.0.1 })) at c.put_number-after_moment.ensures in
+    let two = rw (back_is {v = c.args.c.gm} (record { sfits = told.1.1.1.1.1.1.0.1 }), back_is {v = c.args.c.transverse_moment} (record { sfits = told.1.1.1.1.1.1.1.0.1 })) at c.put_fields-2.ensures in
+    let outcome = few_le (rw c.word.ensures.word at (few_of c.put.ensures)) most_word (rw c.word.ensures.word at c.word.ensures.few) in
+    let passes = rw c.from-passes.ensures at c.put_field.ensures in
     rw (← condition_line_is c.args.c)
-    (puts_eight c.requires c.put-start.ensures c.put_wholes-after_wholes.ensures gm moment c.put-before_word.ensures c.put_word-after_word.ensures c.put_wholes-after_mark.ensures c.put.ensures)
-
-pub shape_of-text : goal.shape_of-text
-shape_of-text c = puts_length (returns c) c.requires.room
+    (few_both (few_both (few_both (few_both (few_both (few_both (few_of c.put_byte.ensures) c.put_fields.ensures) two) (few_of c.put_byte-2.ensures)) outcome) passes) (few_of c.put-2.ensures))

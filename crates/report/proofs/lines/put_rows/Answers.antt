@@ -1,23 +1,38 @@
--- The lines of the rows passed stand in the text, and each turn puts one more. Assumes nothing.
-use mathlib.Core.Path.{◌≡◌}
+-- The lines of the rows passed are put, and each turn puts one more. Assumes nothing.
+use mathlib.Core.List.{◌∷◌, []}
+use mathlib.Core.Path.{◌≡◌, ap, ◌∙◌}
 use native.Mathlib.Omega.{arith}
-use Rattle.report.proofs.Fields.{rows_none, rows_more}
-use Rattle.report.proofs.Pieces.{puts_length, ready_next}
+use lib.ListN.{length, length-append}
+use Rattle.ranges.specs.Sizes.{row_width}
+use Rattle.report.proofs.Fields.{rows_begin, rows_more, rows_all, row_left}
+use Rattle.report.proofs.Pieces.{room_next}
 use Rattle.report.proofs.lines.put_rows.Goals as goal
 
-pub loop-r-init : goal.loop-r-init
-loop-r-init c = (omega arith, rows_none _ _)
+pub loop-row-init : goal.loop-row-init
+loop-row-init c =
+    let same = c.into_iter-row-iterator.ensures.into_iter_gives in
+    let items = c.chunks_exact-row-items.ensures in
+    let size : c.into_iter-row-iterator.result.size ≡ row_width = ap (λ i. i.size) same ∙ items.size in
+    ((omega arith, tt), size, rw (ap (λ i. i.rest.now) same ∙ items.rest) (rows_begin c.args.rows.now c.args.to.now))
 
-pub put_row-next-requires : goal.put_row-next-requires
-put_row-next-requires c = (ready_next c.loop-r.invariant.1 c.requires.0 (omega arith), omega (arith, c.requires.1))
+pub put_line-requires : goal.put_line-requires
+put_line-requires c =
+    let steps = c.in-Some.ensures.steps in
+    let so = c.loop-row.invariant.2 in
+    let seven : length c.in-Some.row.now ≡ row_width = steps.1.1 ∙ c.loop-row.invariant.1 in
+    let inside = row_left so c.in-Some.row.now c.next.new.self.rest.now steps.1.0 seven in
+    room_next so.put c.requires (omega (arith, seven, inside))
 
-pub loop-r-preserved : goal.loop-r-preserved
-loop-r-preserved c = (omega arith, rows_more c.args.rows.now c.args.count c.loop-r.r (omega arith) c.requires.0 c.loop-r.invariant.1 c.put_row-next.ensures)
-
-pub shape_of-text : goal.shape_of-text
-shape_of-text c = puts_length c.loop-r.invariant.1 (omega (arith, c.requires.0.room))
+pub loop-row-preserved : goal.loop-row-preserved
+loop-row-preserved c =
+    let steps = c.in-Some.ensures.steps in
+    let seven : length c.in-Some.row.now ≡ row_width = steps.1.1 ∙ c.loop-row.invariant.1 in
+    let size : c.next.new.self.size ≡ row_width = steps.0 ∙ c.loop-row.invariant.1 in (
+      (omega arith, tt),
+      size,
+      rw (length-append c.loop-row.yielded (c.in-Some.row ∷ []))
+          (rows_more c.loop-row.invariant.2 c.in-Some.row.now c.next.new.self.rest.now steps.1.0 seven c.put_line.ensures),
+    )
 
 pub returns : goal.returns
-returns c =
-    let all : c.loop-r.r ≡ c.args.count = omega arith in
-    rw all at c.loop-r.invariant.1
+returns c = let few = c.in-None.ensures.steps.1.0 in rows_all c.loop-row.invariant.2 (omega (arith, few, c.loop-row.invariant.1))
