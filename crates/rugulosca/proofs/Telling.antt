@@ -15,15 +15,15 @@ use lib.Ieee.{Float}
 use lib.IntN.{ℤ}
 use Rattle.arithmetic.proofs.Only.{only}
 use Rattle.ranges.specs.Outcome.{Outcome, answered, refused, value_after, Numbered}
+use Rattle.std.specs.Prelude.{Result}
 use Rattle.ranges.specs.declared.Particulars.{Particulars}
+use Rattle.ranges.specs.declared.refusal.Refusal.{Refusal}
 use Rattle.hydrostatics.specs.Promise.{MakesRows}
-use Rattle.hydrostatics.specs.declared.Rows.{Rows}
 use Rattle.inclining.specs.Inclining.{MakesLightShip}
-use Rattle.inclining.specs.declared.Answer.{Answer}
+use Rattle.inclining.specs.declared.LightShip.{LightShip}
 use Rattle.inclining.specs.declared.Test.{Test}
 use Rattle.loading.specs.declared.Condition.{Condition}
 use Rattle.writer.specs.Writer.{Writes}
-use Rattle.writer.specs.declared.Written.{Written}
 use Rattle.rugulosca.specs.Told.{number_of, place_after, tangent_after, Tells, TellsCondition}
 
 pub told : {A B : Type 0} (value : A → B) {o : Outcome A} {a : A} {was : B} {place : ℕ} → answered a ≡ o → Tells value o was (value a) place place 0
@@ -56,11 +56,11 @@ pub condition_as : {o q : Outcome Condition} {wholes wholesLeft : List ℕ} {sig
 condition_as {wholes} {wholesLeft} {signed} {signedLeft} {tangent} {tangentLeft} {place} {placeLeft} {number} e t =
     subst (λ o. TellsCondition o wholes wholesLeft signed signedLeft tangent tangentLeft place placeLeft number) e t
 
-pub rows_at : {p q : Particulars} {table rows after : List ℕ} {answer : Rows} → p ≡ q → MakesRows table p rows after answer → MakesRows table q rows after answer
+pub rows_at : {p q : Particulars} {table rows after : List ℕ} {answer : Result ℕ Refusal} → p ≡ q → MakesRows table p rows after answer → MakesRows table q rows after answer
 rows_at {table} {rows} {after} {answer} e makes = subst (λ p. MakesRows table p rows after answer) e makes
 
-pub written_at : {p q : Particulars} {h : List ℕ} {i t : List ℤ} {room left : List ℕ} {answer : Written} → p ≡ q → Writes p h i t room left answer → Writes q h i t room left answer
+pub written_at : {p q : Particulars} {h : List ℕ} {i t : List ℤ} {room left : List ℕ} {answer : Result ℕ Refusal} → p ≡ q → Writes p h i t room left answer → Writes q h i t room left answer
 written_at {h} {i} {t} {room} {left} {answer} e writes = subst (λ p. Writes p h i t room left answer) e writes
 
-pub ship_at : {t u : Test} {shifts : List ℕ} {off on : List ℤ} {gms after : List ℕ} {answer : Answer} → t ≡ u → MakesLightShip t shifts off on gms after answer → MakesLightShip u shifts off on gms after answer
+pub ship_at : {t u : Test} {shifts : List ℕ} {off on : List ℤ} {gms after : List ℕ} {answer : Result LightShip Refusal} → t ≡ u → MakesLightShip t shifts off on gms after answer → MakesLightShip u shifts off on gms after answer
 ship_at {shifts} {off} {on} {gms} {after} {answer} e makes = subst (λ t. MakesLightShip t shifts off on gms after answer) e makes

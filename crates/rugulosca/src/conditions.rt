@@ -4,7 +4,7 @@ ghost use Rattle.loading.specs.Condition.{condition_of, condition_by};
 ghost use Rattle.ranges.specs.Reasons.{paper};
 ghost use Rattle.rugulosca.specs.Told.{TellsCondition, lie, wholes_of};
 
-use crate::telling::tell;
+use crate::told::tell;
 use loading::{Condition, Heel, Reading};
 use ranges::Refusal;
 
@@ -37,7 +37,7 @@ fn wholes_of(c: Condition) -> [u64; WHOLE_COUNT]
         c.vertical_moment,
         c.free_surface,
         lie(c.heel),
-        u64::from(c.passes),
+        c.passes as u64,
     ]
 }
 

@@ -5,7 +5,7 @@ ghost use Rattle.offsets.specs.Reader.{ReadInto, reader_of, summarised};
 ghost use Rattle.writer.specs.Writer.{writer_of, length_of, room_after};
 ghost use Rattle.rugulosca.specs.Told.{Tells, summary_numbers};
 
-use crate::telling::tell;
+use crate::told::tell;
 use offsets::Summary;
 use ranges::{PARTICULAR_COUNT, Particulars};
 

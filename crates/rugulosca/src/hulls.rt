@@ -7,7 +7,7 @@ ghost use Rattle.hydrostatics.specs.Usable.{row_in};
 ghost use Rattle.ranges.specs.Outside.{particulars_of};
 ghost use Rattle.rugulosca.specs.Told.{Tells, figure_numbers};
 
-use crate::telling::tell;
+use crate::told::tell;
 use hydrostatics::{Figures, ROW_WIDTH, Row};
 use ranges::{PARTICULAR_COUNT, Particulars};
 
@@ -45,21 +45,6 @@ pub fn rugulosca_rows_by_sections(
     tell(answer, count, place)
 }
 
-// Seven numbers as a row.
-fn row_of(seven: &[u64; ROW_WIDTH]) -> Row
-    ensures { result ≡ row_in seven.now 0 }
-{
-    Row {
-        draft: seven[0],
-        displacement: seven[1],
-        lcb: seven[2],
-        kb: seven[3],
-        bm: seven[4],
-        km: seven[5],
-        area: seven[6],
-    }
-}
-
 // A displayed row's figures.
 fn numbers_of(f: Figures) -> [f64; ROW_WIDTH]
     ensures { result ≡ figure_numbers f }
@@ -75,6 +60,6 @@ pub fn rugulosca_display(
 ) -> u64
     ensures { Tells figure_numbers (display_of (row_in row.now 0)) figures.old figures.new place.old place.new result }
 {
-    let answer = hydrostatics::display_row(row_of(row));
+    let answer = hydrostatics::display_row(Row::from(*row));
     tell(answer.map(numbers_of), figures, place)
 }

@@ -3,7 +3,7 @@ ghost use Rattle.std.specs.Prelude.{◌≡◌, length};
 ghost use Rattle.inclining.specs.Inclining.{inclined_of, ship_of, table_after};
 ghost use Rattle.rugulosca.specs.Told.{Tells, test_of, light_ship_numbers};
 
-use crate::telling::tell;
+use crate::told::tell;
 use inclining::{LightShip, Test};
 use ranges::INCLINING_WIDTH;
 

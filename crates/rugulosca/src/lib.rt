@@ -10,4 +10,4 @@ pub mod profiles;
 pub mod sheets;
 pub mod surfaces;
 pub mod tallies;
-mod telling;
+mod told;

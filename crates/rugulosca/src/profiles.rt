@@ -4,7 +4,7 @@ ghost use Rattle.levers.specs.Promise.{profile_of, levers_after};
 ghost use Rattle.ranges.specs.Outcome.{value_after};
 ghost use Rattle.rugulosca.specs.Told.{Tells, met, profile_wholes, profile_signed};
 
-use crate::telling::tell;
+use crate::told::tell;
 use levers::{ANGLES, Profile, Rule};
 
 // The peak's angle and the five rules; GM, GZ at 30 degrees and the two sums.

@@ -5,7 +5,7 @@ ghost use Rattle.report.specs.Promise.{report_of, report_by};
 ghost use Rattle.report.specs.Sheet.{sheet_of, sheet_by};
 ghost use Rattle.rugulosca.specs.Told.{Tells};
 
-use crate::telling::tell;
+use crate::told::tell;
 use loading::Reading;
 
 // From a file's text to the sheet's lines, and how many bytes they take, with the lesser KM between two rows.

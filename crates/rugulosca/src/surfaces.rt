@@ -1,8 +1,9 @@
 // The free surface of a hopper tank.
+ghost use Rattle.std.specs.Prelude.{◌≡◌};
 ghost use Rattle.hoppers.specs.Hopper.{surface_of};
 ghost use Rattle.rugulosca.specs.Told.{Tells, surface_numbers};
 
-use crate::telling::tell;
+use crate::told::tell;
 use hoppers::FreeSurface;
 
 // The inertia and the moment.

@@ -7,7 +7,7 @@ ghost use Rattle.tally.specs.Condition.{condition_aboard};
 ghost use Rattle.tally.specs.Steps.{paper, loads, discharges, shifts};
 
 use crate::conditions::{SIGNED_COUNT, WHOLE_COUNT, tell_condition};
-use crate::telling::tell;
+use crate::told::tell;
 use loading::Totals;
 use ranges::ITEM_WIDTH;
 use tally::{Item, Place, SLOTS, Slot, Stepped, Tally};

@@ -3,4 +3,4 @@ use Rattle.rugulosca.proofs.Telling.{condition_as}
 use Rattle.rugulosca.proofs.conditions.rugulosca_condition.Goals as goal
 
 pub returns : goal.returns
-returns c = condition_as c.condition_of-answer.ensures.answer_is c.tell.ensures
+returns c = condition_as c.condition_of-answer.ensures.answer_is c.tell_condition.ensures

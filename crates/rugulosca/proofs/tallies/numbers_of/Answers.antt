@@ -12,7 +12,7 @@ loop-i-init c = spelling_start _ _ refl
 pub loop-i-preserved : goal.loop-i-preserved
 loop-i-preserved c =
     let held = c.struct_told-1.given in
-    spelling_step _ c.well_formed.0.1.0.1 c.loop-i.invariant (omega arith) (back_is (record { sfits = c.mark-filled.type_inv }) ∙ c.mark-filled.ensures)
+    spelling_step _ c.well_formed.0.1.0.1 c.loop-i.invariant (omega arith) (back_is (record { sfits = c.from.type_inv }) ∙ c.from.ensures)
     (held_told _ held)
 
 pub returns : goal.returns

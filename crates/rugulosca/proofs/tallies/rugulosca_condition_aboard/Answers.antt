@@ -10,4 +10,4 @@ pub returns : goal.returns
 returns c =
     let s = c.args in
     let aboard = heard (λ moment. tally_from (keeping s.slots.now s.totals.now moment)) c.ranges.transverse c.tally_from-aboard.ensures in
-    condition_as (c.condition_of-answer.ensures ∙ ap (λ t. condition_aboard t s.tanks.now s.rows.now) aboard) c.tell.ensures
+    condition_as (c.condition_of-answer.ensures ∙ ap (λ t. condition_aboard t s.tanks.now s.rows.now) aboard) c.tell_condition.ensures

@@ -1,8 +1,7 @@
 -- The step of the tally that is kept, told. Assumes nothing.
-use mathlib.Core.Path.{ap, ap₂, ◌∙◌}
+use mathlib.Core.Path.{ap₂, ◌∙◌}
 use Rattle.arithmetic.proofs.Crossing.{heard}
-use Rattle.tally.specs.Steps.{paper, loads}
-use Rattle.tally.proofs.Stepping.{paper_stepped}
+use Rattle.tally.specs.Steps.{loads}
 use Rattle.rugulosca.specs.Panel.{keeping, tally_from}
 use Rattle.rugulosca.proofs.Telling.{tells_as}
 use Rattle.rugulosca.proofs.tallies.rugulosca_load.Goals as goal
@@ -11,4 +10,4 @@ pub returns : goal.returns
 returns c =
     let s = c.args in
     let before = heard (λ moment. tally_from (keeping s.slots.now s.totals.now moment)) (record { sfits = c.tally_from-arg-3-1.given }) c.tally_from-before.ensures in
-    tells_as (ap paper c.loaded-stepped.ensures ∙ paper_stepped _ _ ∙ ap₂ (loads s.slot) c.item_from.ensures before) c.tell_step.ensures
+    tells_as (c.loaded-stepped.ensures.answer_is ∙ ap₂ (loads s.slot) c.item_from.ensures before) c.tell_step.ensures

@@ -1,11 +1,6 @@
 -- The walk, slot by slot. Assumes nothing.
-use Prim.Native.Nat.{◌-◌}
-use Rattle.tally.specs.Tally.{slot_count}
 use Rattle.rugulosca.proofs.Panels.{Reading}
 use Rattle.rugulosca.proofs.tallies.slots_from.Given as goal
 
 abbrev pub invariant-loop-i : goal.invariant-loop-i
 invariant-loop-i l = Reading l.numbers l.slots l.i
-
-abbrev pub decreases-loop-i : goal.decreases-loop-i
-decreases-loop-i l = slot_count - l.i
