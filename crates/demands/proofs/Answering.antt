@@ -57,7 +57,6 @@ use Rattle.tally.specs.Condition.{condition_aboard}
 use Rattle.tally.specs.History.{Step, load, discharge, shift, taken}
 use Rattle.tally.specs.Steps.{HandsBack}
 use Rattle.tally.specs.Steps as Steps
-use Rattle.tally.specs.declared.Stepped.{Stepped}
 use Rattle.tally.specs.declared.Tally.{Tally}
 use Rattle.tally.proofs.Histories.{refused_unchanged}
 use Rattle.tally.proofs.Numbered as Tally

@@ -29,7 +29,6 @@ use Rattle.loading.proofs.Beside.{readings_beside}
 use Rattle.loading.proofs.ByRow.{own_weight_stands, read_between}
 use Rattle.loading.proofs.Demand3 as Third
 use Rattle.loading.proofs.Demand3.{ConditionOver}
-use Rattle.tally.specs.History.{taken}
 use Rattle.tally.proofs.Histories.{totals_after, answers_alike, always_sound, usable_at_once, condition_after, stepped_on}
 use Rattle.rugulosca.specs.Told.{place_after}
 use Rattle.rugulosca.proofs.Apart.{apart}

@@ -29,8 +29,8 @@ in_order made = record {
   seven_at_0 = λ wrong. ap paper (size_refused made (λ c. wrong (record { as_many = c.0; enough = c.1; not_too_many = c.2 })));
   port_first = λ c i f. ap paper (port_refused made (counts c) i f.there f.above f.none_before);
   then_starboard = λ c p i f. ap paper (starboard_refused made (counts c) p i f.there f.above f.none_before);
-  then_interval = λ c p q. ap paper (interval_refused made (counts c) p q);
-  then_density = λ c p q h. ap paper (density_refused made (counts c) p q h);
+  then_interval = λ c p q out. ap paper (interval_refused made (counts c) p q out);
+  then_density = λ c p q h out. ap paper (density_refused made (counts c) p q h out);
   else_found = λ c p q h. else_found made (counts c) p q h;
 }
 

@@ -1,7 +1,8 @@
 -- What change request 6 asks is met.
 --     longer_tables        all of `LongerTables`, from the theorems of the crates below
 -- Assumes nothing.
-use mathlib.Core.Path.{◌≡◌, refl, sym, ◌∙◌}
+use mathlib.Core.Path.{◌≡◌, refl, sym, ap, ◌∙◌}
+use Rattle.std.specs.Prelude.{Err}
 use mathlib.Core.Bool.{true}
 use mathlib.Core.List.{List}
 use Prim.Native.Nat.{ℕ, zero, suc, ◌*◌, ◌%◌, ◌≤◌, ◌<◌}
@@ -11,7 +12,10 @@ use lib.IntN.{ℤ, pos}
 use lib.ListN.{length, get_or}
 use Rattle.ranges.specs.Fields.{◌to◌, within, particulars}
 use Rattle.ranges.specs.Limits.{Limits, limits}
-use Rattle.ranges.specs.Outcome.{refused}
+use Rattle.ranges.specs.Outcome.{refused, answer_with}
+use Rattle.ranges.specs.Reasons.{paper}
+use Rattle.ranges.specs.declared.refusal.Reason.TheVariants.{OutOfRange}
+use Rattle.ranges.specs.declared.refusal.Refusal.{Refusal}
 use Rattle.ranges.specs.Outside.{first_outside, numbers_of, too_long, bad_particular}
 use Rattle.ranges.specs.declared.Particulars.{Particulars}
 use Rattle.ranges.proofs.Facts.{all_inside, whole_within, particulars_in_range}
@@ -19,15 +23,15 @@ use Rattle.ranges.proofs.Hulls.{bad_outside, bad_length, bad_none}
 use Rattle.ranges.proofs.Longer.{Longer}
 use Rattle.offsets.specs.Back.{RoomForAnyFile}
 use Rattle.offsets.specs.File.{file}
-use Rattle.offsets.specs.Reader.{Reads}
+use Rattle.offsets.specs.Reader.{Reads, summarised}
 use Rattle.offsets.specs.Tokens.{tokens}
 use Rattle.offsets.specs.declared.Summary.{Summary}
-use Rattle.offsets.proofs.Answers.{past_sizes, refusal, text_too_long}
+use Rattle.offsets.proofs.Answers.{past_sizes, text_too_long}
 use Rattle.offsets.proofs.WasRead.{reads_contents}
 use Rattle.offsets.proofs.Longer.{read_still}
 use Rattle.offsets.proofs.Particulars.{refused_before, refused_at_spacing}
 use Rattle.writer.proofs.Tried.{refuses_particular}
-use Rattle.writer.proofs.WholeText.{writes_refused}
+use Rattle.writer.proofs.Writing.{writes_refused}
 use Rattle.offsets.proofs.Unique.{reads_unique}
 use Rattle.writer.proofs.Unique.{writes_unique}
 use Rattle.hydrostatics.proofs.Answers.{bad_particular_said, refuses}
@@ -78,22 +82,30 @@ module _ (p : Particulars) where
 -- what a file of allowed length is refused for, the reader answers
 file_refuses : {text h₀ h' : List ℕ} {i₀ i' t₀ t' : List ℤ} {answer : Answer Summary} {why place : ℕ} → RoomForAnyFile h₀ i₀ t₀ → length text ≤ 32_768 → file (length text) (tokens text) ≡ refused why place → Reads text h₀ h' i₀ i' t₀ t' answer
     → RefusedWith why place answer
+unfolding answer_with
 file_refuses {text} {h₀} {i₀ = i₀} {t₀ = t₀} rooms short said reads =
     let opened = past_sizes text (length h₀) (length i₀) (length t₀) rooms.half_breadth_room rooms.item_room rooms.tank_room short in
-    (reads_unique reads (refusal text h₀ i₀ t₀ _ _ (opened ∙ said))).0
+    reads.answer_is ∙ ap summarised (opened ∙ said)
+
+-- out of range, at s
+at_s : Refusal
+at_s = record { reason = OutOfRange; place = 2 }
 
 pub longer_tables : LongerTables
+unfolding at_s
 longer_tables = record {
   hulls_taken = λ p. (λ none. five_of p (omega (arith, none)), λ so. short_is p so.0 so.1);
   too_long_for_the_rows = λ {half_breadths} {p} {rows} five long made.
-      makes_rows_unique made (refuses (bad_particular_said half_breadths p (length rows) (sym (at_spacing p five long)) (omega arith)) refl);
+      let both = makes_rows_unique made (refuses {answer = Err at_s} (bad_particular_said half_breadths p (length rows) (sym (at_spacing p five long)) (omega arith)) refl) in
+      (ap paper both.0, both.1);
   too_long_for_the_writer = λ {p} {half_breadths} {items} {tanks} {room} five long writes.
-      writes_unique writes (writes_refused (refuses_particular p half_breadths items tanks (length room) (sym (at_spacing p five long)) (omega arith)) refl);
+      let both = writes_unique writes (writes_refused {r = at_s} (refuses_particular p half_breadths items tanks (length room) (sym (at_spacing p five long)) (omega arith)) refl) in
+      (ap paper both.0, both.1);
   too_long_for_the_reader = λ {text} {p = p} rooms short begins five long reads.
       file_refuses rooms short (refused_at_spacing (length text) p begins (omega (arith, all_five p five)) (long_is p five long)) reads;
   ranges_come_first = λ p out. bad_outside limits p out;
   particulars_come_first = λ {text} rooms short begins read reads. file_refuses rooms short (refused_before (length text) begins read) reads;
-  too_many_bytes = λ {text} {h₀} {i₀ = i₀} {t₀ = t₀} rooms long reads. (reads_unique reads (text_too_long text h₀ i₀ t₀ rooms.half_breadth_room rooms.item_room rooms.tank_room long)).0;
+  too_many_bytes = λ {text} {h₀} {i₀ = i₀} {t₀ = t₀} rooms long reads. ap paper (reads_unique reads (text_too_long text h₀ i₀ t₀ rooms.half_breadth_room rooms.item_room rooms.tank_room long)).0;
   room_and_places = (refl, refl, refl);
   files_read_alike = λ {text = text} {h₀ = h₀} {i₀ = i₀} {t₀ = t₀} {c = c} shorter h i t then-read rooms reads.
       reads_contents c (read_still (longer shorter) text h i t then-read (length h₀) (length i₀) (length t₀) rooms.half_breadth_room rooms.item_room rooms.tank_room) reads;

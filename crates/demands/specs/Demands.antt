@@ -41,7 +41,6 @@ use Rattle.tally.specs.Condition.{condition_aboard}
 use Rattle.tally.specs.History.{Step, taken}
 use Rattle.tally.specs.Steps.{HandsBack}
 use Rattle.tally.specs.Steps as Steps
-use Rattle.tally.specs.declared.Stepped.{Stepped}
 use Rattle.tally.specs.declared.Tally.{Tally}
 use Rattle.report.specs.Promise.{Reports}
 use Rattle.rugulosca.specs.Told.{Tells, Apart}
