@@ -38,19 +38,21 @@ impl Parts {
         ensures { result ≡ at_least least (value self) }
     {
         if self.whole < self.off + least {
-            return Rule::Missed;
+            Rule::Missed
+        } else {
+            Rule::Met
         }
-        Rule::Met
     }
 
-    // Whether the area by this multiplied sum is at least so many mm·rad.
+    // Whether the area by this multiplied sum is at least so many mm·rad. By one function for both, `at_least` would multiply by a unit of 1.
     pub(crate) fn area_at_least(self, least: u64) -> Rule
         requires { least ≤ least_most }
         ensures { result ≡ area_at_least least (value self) }
     {
         if SUM_UNIT * self.whole < SUM_UNIT * self.off + AREA_UNIT * least {
-            return Rule::Missed;
+            Rule::Missed
+        } else {
+            Rule::Met
         }
-        Rule::Met
     }
 }

@@ -71,9 +71,10 @@ impl Levers {
         ensures { result ≡ greater_of (lever self.now.kn self.now.off) first i }
     {
         if self.kn[first] + self.off[i] < self.kn[i] + self.off[first] {
-            return i;
+            i
+        } else {
+            first
         }
-        first
     }
 
     // The angle of the first greatest GZ, by number.

@@ -105,7 +105,8 @@ pub struct Totals {
     pub transverse: i64,
 }
 
-// What is aboard, added up: kg, kg·mm; the transverse moment by its two sides.
+// What is aboard, added up: kg, kg·mm; the transverse moment by its two sides. That it is no more than a barge can bear is asked
+// where it is used and no field of this type, since a sum of two that can be borne need not be one.
 #[derive(Clone, Copy, Debug, Default, PartialEq, Eq)]
 struct Aboard {
     weight: u64,
@@ -153,6 +154,7 @@ fn loaded(reading: Reading, items: &[i64], tanks: &[i64], rows: Rows) -> Result<
 }
 
 // The condition of items and tanks over the rows of a hull, by a reading of KM, or the first refusal in the paper's order.
+// Three slices, as they are lent from C.
 pub fn condition_by(
     reading: Reading,
     items: &[i64],

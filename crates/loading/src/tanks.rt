@@ -60,14 +60,18 @@ impl Tank {
         0 < contents && HUNDREDTHS * contents < PRESSED_UP * self.capacity
     }
 
-    // Its free surface.
+    // Its free surface: none unless it is slack.
     fn surface(self) -> u64
         ensures { result ≡ surface_of rectangle (tank_of self) }
     {
         if !self.is_slack() {
             return 0;
         }
-        slack_surface(self.length, self.breadth, self.density)
+        let breadth = self.breadth;
+        arithmetic::rounded_up(
+            self.length * (breadth * breadth * breadth) * self.density,
+            PARTS,
+        )
     }
 
     // What it brings.
@@ -76,14 +80,6 @@ impl Tank {
     {
         self.contents.aboard(self.surface())
     }
-}
-
-// The free surface of a slack tank.
-fn slack_surface(length: u64, breadth: u64, density: u64) -> u64
-    requires { RoomOf length breadth density }
-    ensures { result ≡ rounded_up (length * breadth ^ 3 * density) rectangle.unit }
-{
-    arithmetic::rounded_up(length * (breadth * breadth * breadth) * density, PARTS)
 }
 
 // All tanks of a table together, or the first refusal: of each tank its eight numbers for 4, then 13.

@@ -1,6 +1,5 @@
 -- A table filled from another one, number by number.
 --     copied_next        i numbers are in, and one more
---     copied-none        none yet
 -- `f` is what is kept of each number. Assumes nothing.
 use mathlib.Core.Path.{◌≡◌, sym, ap, ◌∙◌}
 use mathlib.Core.List.{List, [], ◌∷◌, ◌++◌, map, map-append}

@@ -47,10 +47,8 @@ fn read_sized(
     let mut items_read = [0i64; ranges::ITEM_ROOM];
     let mut tanks_read = [0i64; ranges::TANK_ROOM];
     let summary = parse(text, &mut points_read, &mut items_read, &mut tanks_read)?;
-    copy_sizes(
-        &points_read[..points_of(summary.particulars)],
-        half_breadths,
-    );
+    let points = points_of(summary.particulars);
+    copy_sizes(&points_read[..points], half_breadths);
     let item_numbers = ITEM_WIDTH * summary.items;
     items[..item_numbers].copy_from_slice(&items_read[..item_numbers]);
     let tank_numbers = TANK_WIDTH * summary.tanks;

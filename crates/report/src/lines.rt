@@ -52,6 +52,7 @@ pub(crate) fn put_rows(to: &mut Lines<'_>, rows: &[u64])
 }
 
 // The outcome's word.
+#[tactic(auto, unfolding(crate::specs::Lines::word))]
 fn word(heel: Heel) -> &'static [u8]
     ensures word { result.now ≡ word heel }
     ensures few { length result.now ≤ most_word }
@@ -89,6 +90,7 @@ pub(crate) fn put_condition(to: &mut Lines<'_>, c: Condition)
 }
 
 // The E line of a refusal.
+#[tactic(auto, unfolding(crate::specs::Lines::refusal_line))]
 pub(crate) fn put_refusal(to: &mut Lines<'_>, refusal: Refusal)
     requires { HasRoom (most_line 2) to.old }
     ensures { PutsFew (most_line 2) (refusal_line (number_of refusal.reason) refusal.place) to.old to.new }

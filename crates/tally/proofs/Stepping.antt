@@ -5,6 +5,7 @@
 --     shifts_tried, shifts_empty, shifts_done             shift
 --     fitting_load, fitting_discharge, fitting_shift      what is aboard afterwards is in range
 --     handed_back, handed                                 what a call hands back of a tally: it keeps the promise of a step
+--     refused_as, done_as                                 as a step leaves it that was refused, and that was done
 --     handed_unique                                       and nothing else keeps it
 --     step_unique                                         a lent tally's promise determines the answer and the tally
 -- Assumes nothing.
@@ -18,8 +19,8 @@ use Rattle.std.specs.Prelude.{Result, Ok, Err}
 use Rattle.arithmetic.proofs.Choice.{chosen}
 use Rattle.arithmetic.proofs.Only.{only}
 use Rattle.ranges.specs.Fields.{within}
-use Rattle.ranges.specs.Outcome.{Outcome, answered, refused, and_then}
-use Rattle.ranges.specs.Reasons.{paper as paper_result}
+use Rattle.ranges.specs.Outcome.{Outcome, answered, refused, and_then, value_after}
+use Rattle.ranges.specs.Reasons.{number_of, paper as paper_result}
 use Rattle.ranges.specs.Outside.{outside_from, first_outside}
 use Rattle.ranges.specs.Refusals.{slot_taken, slot_empty}
 use Rattle.ranges.specs.Sizes.{item_width}
@@ -139,6 +140,18 @@ handed_back t (Err r) = record { answer = Err r; tally = t }
 pub handed : (t : Tally) (after : Result Tally Refusal) → HandsBack t (paper_result after) (handed_back t after)
 handed t (Ok after) = record { answer_is = refl; tally_is = refl }
 handed t (Err r) = record { answer_is = refl; tally_is = refl }
+
+pub refused_as : {t : Tally} {o : Outcome Tally} {r s : Refusal} → r ≡ s → o ≡ refused (number_of s.reason) s.place → HandsBack t o (record { answer = Err r; tally = t })
+refused_as {t} e f = record {
+  answer_is = ap (λ r. paper_of (Err r) t) e ∙ sym f;
+  tally_is = sym (ap (λ o. value_after (λ after. after) o t) f);
+}
+
+pub done_as : {t after u : Tally} {o : Outcome Tally} → after ≡ u → o ≡ answered u → HandsBack t o (record { answer = Ok tt; tally = after })
+done_as {t} e f = record {
+  answer_is = ap answered e ∙ sym f;
+  tally_is = e ∙ sym (ap (λ o. value_after (λ after. after) o t) f);
+}
 
 answer_known_by : (a b : Result (Unit {0}) Refusal) (t u : Tally) → paper_of a t ≡ paper_of b u → a ≡ b
 answer_known_by (Ok x) (Ok y) t u e = refl

@@ -7,7 +7,6 @@ ghost use Rattle.ranges.specs.Private.Bounds.{place_in};
 ghost use Rattle.ranges.specs.Reasons.{paper};
 ghost use Rattle.ranges.specs.Sizes.{item_width};
 ghost use Rattle.tally.specs.Condition.{condition_aboard};
-ghost use Rattle.tally.specs.Private.Trying.{Tried};
 ghost use Rattle.tally.specs.Steps.{moved_to, HandsBack, loads, discharges, shifts};
 ghost use Rattle.tally.specs.Tally.{empty, outside};
 
@@ -93,40 +92,6 @@ impl Slot {
     };
 }
 
-impl Stepped {
-    // What is handed back of a tally: the one after the step, or the same again with its refusal.
-    fn new(tally: Tally, after: Result<Tally, Refusal>) -> Stepped
-        ensures { HandsBack tally (paper after) result }
-    {
-        match after {
-            Ok(tally) => Stepped {
-                answer: Ok(()),
-                tally,
-            },
-            Err(refusal) => Stepped {
-                answer: Err(refusal),
-                tally,
-            },
-        }
-    }
-}
-
-// The tests that a step begins with, in the paper's order.
-fn tried(tally: Tally, item: Item, slot: usize) -> Result<(), Refusal>
-    ensures { Tried tally item slot result }
-{
-    if !tally.is_sound() {
-        return Err(Reason::TallyUnsound.at(0));
-    }
-    if let Some(place) = item.first_outside() {
-        return Err(Reason::OutOfRange.at(place));
-    }
-    if SLOTS <= slot {
-        return Err(Reason::NoSuchSlot.at(slot));
-    }
-    Ok(())
-}
-
 // A tally with nothing aboard.
 pub fn empty() -> Tally
     ensures { result ≡ empty }
@@ -142,62 +107,67 @@ pub fn empty() -> Tally
     }
 }
 
-// The tally after a load, or its refusal.
-fn after_load(tally: Tally, slot: usize, item: Item) -> Result<Tally, Refusal>
-    ensures { paper result ≡ loads slot item tally }
+// Loads an item into an empty slot of a lent tally; a refused step leaves it as it was.
+pub fn load(tally: &mut Tally, slot: usize, item: Item) -> Result<(), Refusal>
+    ensures { HandsBack tally.old (loads slot item tally.old) (record { answer = result; tally = tally.new }) }
 {
-    tried(tally, item, slot)?;
+    tally.tried(item, slot)?;
     let was = tally.slots[slot];
     if was.filled {
         return Err(Reason::SlotTaken.at(slot));
     }
-    Ok(tally.with_slot(slot, Slot { filled: true, item }))
+    tally.put(slot, Slot { filled: true, item });
+    Ok(())
 }
 
-// The same after a discharge: the order has no item, and zeros are in range.
-fn after_discharge(tally: Tally, slot: usize) -> Result<Tally, Refusal>
-    ensures { paper result ≡ discharges slot tally }
+// Discharges a slot, which holds zeros then: the order has no item, and zeros are in range.
+pub fn discharge(tally: &mut Tally, slot: usize) -> Result<(), Refusal>
+    ensures { HandsBack tally.old (discharges slot tally.old) (record { answer = result; tally = tally.new }) }
 {
-    tried(tally, Item::NONE, slot)?;
+    tally.tried(Item::NONE, slot)?;
     let was = tally.slots[slot];
     if !was.filled {
         return Err(Reason::SlotEmpty.at(slot));
     }
-    Ok(tally.with_slot(slot, Slot::FREED))
+    tally.put(slot, Slot::FREED);
+    Ok(())
 }
 
-// The same after a shift.
-fn after_shift(tally: Tally, slot: usize, place: Place) -> Result<Tally, Refusal>
-    ensures { paper result ≡ shifts slot place tally }
+// Shifts a slot's item to a new place.
+pub fn shift(tally: &mut Tally, slot: usize, place: Place) -> Result<(), Refusal>
+    ensures { HandsBack tally.old (shifts slot place tally.old) (record { answer = result; tally = tally.new }) }
 {
-    tried(tally, Item::NONE.moved_to(place), slot)?;
+    tally.tried(Item::NONE.moved_to(place), slot)?;
     let was = tally.slots[slot];
     if !was.filled {
         return Err(Reason::SlotEmpty.at(slot));
     }
     let item = was.item.moved_to(place);
-    Ok(tally.with_slot(slot, Slot { filled: true, item }))
+    tally.put(slot, Slot { filled: true, item });
+    Ok(())
 }
 
-// Loads an item into an empty slot.
-pub fn loaded(tally: Tally, slot: usize, item: Item) -> Stepped
+// The same steps by value: each lends its tally to the step of its name, and hands it back.
+
+pub fn loaded(mut tally: Tally, slot: usize, item: Item) -> Stepped
     ensures { HandsBack tally (loads slot item tally) result }
 {
-    Stepped::new(tally, after_load(tally, slot, item))
+    let answer = load(&mut tally, slot, item);
+    Stepped { answer, tally }
 }
 
-// Discharges a slot, which holds zeros then.
-pub fn discharged(tally: Tally, slot: usize) -> Stepped
+pub fn discharged(mut tally: Tally, slot: usize) -> Stepped
     ensures { HandsBack tally (discharges slot tally) result }
 {
-    Stepped::new(tally, after_discharge(tally, slot))
+    let answer = discharge(&mut tally, slot);
+    Stepped { answer, tally }
 }
 
-// Shifts a slot's item to a new place.
-pub fn shifted(tally: Tally, slot: usize, place: Place) -> Stepped
+pub fn shifted(mut tally: Tally, slot: usize, place: Place) -> Stepped
     ensures { HandsBack tally (shifts slot place tally) result }
 {
-    Stepped::new(tally, after_shift(tally, slot, place))
+    let answer = shift(&mut tally, slot, place);
+    Stepped { answer, tally }
 }
 
 // The condition of the items aboard and these tanks over the rows of a hull.
@@ -207,32 +177,6 @@ pub fn condition_of(tally: Tally, tanks: &[i64], rows: &[u64]) -> Result<Conditi
     if !tally.is_sound() {
         return Err(Reason::TallyUnsound.at(0));
     }
-    let listed = listing::items_aboard(tally.slots);
+    let listed = listing::items_aboard(&tally.slots);
     loading::condition_of(listed.items(), tanks, rows)
-}
-
-// The lent tally, changed where it stands: each calls the step of its name by value, and puts its tally back.
-
-pub fn load(tally: &mut Tally, slot: usize, item: Item) -> Result<(), Refusal>
-    ensures { HandsBack tally.old (loads slot item tally.old) (record { answer = result; tally = tally.new }) }
-{
-    let stepped = loaded(*tally, slot, item);
-    *tally = stepped.tally;
-    stepped.answer
-}
-
-pub fn discharge(tally: &mut Tally, slot: usize) -> Result<(), Refusal>
-    ensures { HandsBack tally.old (discharges slot tally.old) (record { answer = result; tally = tally.new }) }
-{
-    let stepped = discharged(*tally, slot);
-    *tally = stepped.tally;
-    stepped.answer
-}
-
-pub fn shift(tally: &mut Tally, slot: usize, place: Place) -> Result<(), Refusal>
-    ensures { HandsBack tally.old (shifts slot place tally.old) (record { answer = result; tally = tally.new }) }
-{
-    let stepped = shifted(*tally, slot, place);
-    *tally = stepped.tally;
-    stepped.answer
 }

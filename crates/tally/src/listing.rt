@@ -3,21 +3,22 @@ ghost use Rattle.std.specs.Prelude.{◌≡◌};
 ghost use Rattle.ranges.specs.Reasons.{paper};
 ghost use Rattle.loading.specs.Items.{item_totals};
 ghost use Rattle.tally.specs.Private.Listing.{Lists, Fitting};
+ghost use Rattle.tally.specs.Private.Trying.{Tried};
 ghost use Rattle.tally.specs.Steps.{with_slot};
 ghost use Rattle.tally.specs.Tally.{aboard, table_of, sound};
 
 use crate::listed::Listed;
-use crate::{SLOTS, Slot, Tally};
+use crate::{Item, SLOTS, Slot, Tally};
 use loading::Totals;
-use ranges::Refusal;
+use ranges::{Reason, Refusal};
 
 // The items of the filled slots, one after another.
-pub(crate) fn items_aboard(slots: [Slot; SLOTS]) -> Listed
-    ensures { Lists slots result }
+pub(crate) fn items_aboard(slots: &[Slot; SLOTS]) -> Listed
+    ensures { Lists slots.now result }
 {
     let mut numbers = [0i64; ranges::ITEM_ROOM];
     let mut count = 0;
-    for slot in &slots {
+    for slot in slots {
         if !slot.filled {
             continue;
         }
@@ -32,8 +33,8 @@ pub(crate) fn items_aboard(slots: [Slot; SLOTS]) -> Listed
 }
 
 // The totals of the items aboard, or the refusal of one out of range.
-fn added_up(slots: [Slot; SLOTS]) -> Result<Totals, Refusal>
-    ensures { paper result ≡ item_totals (table_of (aboard slots)) }
+fn added_up(slots: &[Slot; SLOTS]) -> Result<Totals, Refusal>
+    ensures { paper result ≡ item_totals (table_of (aboard slots.now)) }
 {
     let listed = items_aboard(slots);
     loading::item_totals(listed.items())
@@ -41,24 +42,38 @@ fn added_up(slots: [Slot; SLOTS]) -> Result<Totals, Refusal>
 
 impl Tally {
     // Whether the items aboard are in range, and the totals theirs.
-    pub(crate) fn is_sound(self) -> bool
-        ensures { result ≡ sound self }
+    pub(crate) fn is_sound(&self) -> bool
+        ensures { result ≡ sound self.now }
     {
-        match added_up(self.slots) {
+        match added_up(&self.slots) {
             Ok(of_items) => self.totals == of_items,
             Err(_) => false,
         }
     }
 
-    // The tally with a slot's content changed, and its totals those of the items then aboard.
-    pub(crate) fn with_slot(self, slot: usize, content: Slot) -> Tally
-        requires { Fitting self slot content }
-        ensures { result ≡ with_slot self slot content }
+    // The tests that a step begins with, in the paper's order.
+    pub(crate) fn tried(&self, item: Item, slot: usize) -> Result<(), Refusal>
+        ensures { Tried self.now item slot result }
     {
-        let mut slots = self.slots;
-        slots[slot] = content;
+        if !self.is_sound() {
+            return Err(Reason::TallyUnsound.at(0));
+        }
+        if let Some(place) = item.first_outside() {
+            return Err(Reason::OutOfRange.at(place));
+        }
+        if SLOTS <= slot {
+            return Err(Reason::NoSuchSlot.at(slot));
+        }
+        Ok(())
+    }
+
+    // Changes a slot's content, and the totals to those of the items then aboard.
+    pub(crate) fn put(&mut self, slot: usize, content: Slot)
+        requires { Fitting self.old slot content }
+        ensures { self.new ≡ with_slot self.old slot content }
+    {
+        self.slots[slot] = content;
         // No item aboard is out of range.
-        let totals = added_up(slots).unwrap();
-        Tally { slots, totals }
+        self.totals = added_up(&self.slots).unwrap();
     }
 }

@@ -1,9 +1,7 @@
 // A file that can be written.
 ghost use Rattle.std.specs.Prelude.{◌≤◌, length, IfOk, IfErr};
-ghost use Rattle.ranges.specs.Fields.{particulars};
-ghost use Rattle.ranges.specs.Outside.{bad_particular};
 ghost use Rattle.writer.specs.Longest.{longest_text};
-ghost use Rattle.writer.specs.Private.Putting.{RightSizes, Passes, RefusedAs};
+ghost use Rattle.writer.specs.Private.Putting.{Passes, RefusedAs};
 
 use crate::LONGEST_TEXT;
 use crate::lines::put_table;
@@ -24,7 +22,7 @@ impl<'a> File<'a> {
     ghost use Rattle.numerals.specs.Pieces.{Puts, HasRoom, InFront};
     ghost use Rattle.writer.specs.Private.Files.{IsOf, text_in, WritesFile};
 
-    // The file of particulars and tables, or why there is none.
+    // The file of particulars and tables, or why there is none. They come as the public call is given them, which C lends one by one.
     pub(crate) fn of(
         p: Particulars,
         half_breadths: &'a [u64],
@@ -37,7 +35,15 @@ impl<'a> File<'a> {
         if let Some(place) = ranges::bad_particular(p) {
             return Err(Reason::OutOfRange.at(place));
         }
-        sizes_tested(p, half_breadths, items, tanks)?;
+        if half_breadths.len() != (p.n + 1) * (p.m + 1) {
+            return Err(Reason::WrongSize.at(Refusal::HALF_BREADTH_TABLE));
+        }
+        if !ranges::items_fit(items.len()) {
+            return Err(Reason::WrongSize.at(Refusal::ITEM_TABLE));
+        }
+        if !ranges::tanks_fit(tanks.len()) {
+            return Err(Reason::WrongSize.at(Refusal::TANK_TABLE));
+        }
         if let Some(place) = ranges::first_outside(half_breadths, Record::HalfBreadth) {
             return Err(Reason::OutOfRange.at(Refusal::HALF_BREADTHS_AT + place));
         }
@@ -66,7 +72,8 @@ impl<'a> File<'a> {
         self.write_apart(room)
     }
 
-    // The same by a text of its own, which is copied where it fits.
+    // The same by a text of its own, which is copied where it fits: an array, since nothing is allocated. The sheet's call does
+    // so too; one function for both would take how the text is put as a closure, and be no plainer.
     fn write_apart(&self, room: &mut [u8]) -> Result<usize, Refusal>
         ensures { WritesFile self.now room.old room.new result }
     {
@@ -109,27 +116,4 @@ impl<'a> File<'a> {
         put_table(to, items, self.items, ranges::ITEM_WIDTH);
         put_table(to, tanks, self.tanks, ranges::TANK_WIDTH);
     }
-}
-
-// Whether the tables are of the right sizes, where the particulars are in range.
-fn sizes_tested(
-    p: Particulars,
-    half_breadths: &[u64],
-    items: &[i64],
-    tanks: &[i64],
-) -> Result<(), Refusal>
-    requires { length particulars ≤ bad_particular p }
-    ensures sizes { IfOk result (λ _. RightSizes p half_breadths.now items.now tanks.now) }
-    ensures refused { IfErr result (RefusedAs p half_breadths.now items.now tanks.now) }
-{
-    if half_breadths.len() != (p.n + 1) * (p.m + 1) {
-        return Err(Reason::WrongSize.at(Refusal::HALF_BREADTH_TABLE));
-    }
-    if !ranges::items_fit(items.len()) {
-        return Err(Reason::WrongSize.at(Refusal::ITEM_TABLE));
-    }
-    if !ranges::tanks_fit(tanks.len()) {
-        return Err(Reason::WrongSize.at(Refusal::TANK_TABLE));
-    }
-    Ok(())
 }

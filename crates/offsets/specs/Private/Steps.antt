@@ -93,11 +93,12 @@ particulars_by len = hull_by len limits
 abbrev pub front : List Range → List ℤ → ℕ → List ℤ
 front fields table k = take (length fields * k) table
 
--- nothing follows where a cursor stands, whatever was read before
+-- contents that were read before a call, where it answered
 abbrev pub ended : {A : Type 0} → Contents → Result A Refusal → Outcome Contents
 ended c (Ok a) = answered c
 ended c (Err r) = refused (number_of r.reason) r.place
 
+-- nothing follows where a cursor stands, whatever was read before
 abbrev pub Finishes : {A : Type 0} → Cursor → Result A Refusal → Type 0
 Finishes at r = (c : Contents) → complete (length at.text.now) c (tokens_at at.text.now at.next) ≡ ended c r
 

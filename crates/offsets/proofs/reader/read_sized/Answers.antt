@@ -32,6 +32,6 @@ returns c =
     let one : 1 * points ≡ points = omega arith in
     let fits : points ≤ length c.parse.new.half_breadths = omega (arith, points_most read.fits.0 read.fits.1, rooms.half_breadth_room) in
     sheet _ _ _ _ c.requires _ _ _ summary read rooms _ _ _
-    (c.copy_sizes.ensures ∙ rw (c.points_of.ensures, length-take-le points c.parse.new.half_breadths fits, one))
+    (c.copy_sizes.ensures ∙ rw (c.points_of-points.ensures, length-take-le points c.parse.new.half_breadths fits, one))
     (ap (λ read. read ++ drop (item_width * summary.items) c.args.items.now) c.copy_from_slice.ensures.after)
     (ap (λ read. read ++ drop (tank_width * summary.tanks) c.args.tanks.now) c.copy_from_slice-2.ensures.after)

@@ -4,8 +4,7 @@ use mathlib.Core.Path.{◌≡◌, ap, ◌∙◌}
 use native.Mathlib.Omega.{arith}
 use lib.ListN.{length, length-append}
 use Rattle.ranges.specs.Sizes.{row_width}
-use Rattle.report.proofs.Fields.{rows_begin, rows_more, rows_all, row_left}
-use Rattle.report.proofs.Pieces.{room_next}
+use Rattle.report.proofs.Fields.{rows_begin, rows_more}
 use Rattle.report.proofs.lines.put_rows.Goals as goal
 
 pub loop-row-init : goal.loop-row-init
@@ -14,14 +13,6 @@ loop-row-init c =
     let items = c.chunks_exact-row-items.ensures in
     let size : c.into_iter-row-iterator.result.size ≡ row_width = ap (λ i. i.size) same ∙ items.size in
     ((omega arith, tt), size, rw (ap (λ i. i.rest.now) same ∙ items.rest) (rows_begin c.args.rows.now c.args.to.now))
-
-pub put_line-requires : goal.put_line-requires
-put_line-requires c =
-    let steps = c.in-Some.ensures.steps in
-    let so = c.loop-row.invariant.2 in
-    let seven : length c.in-Some.row.now ≡ row_width = steps.1.1 ∙ c.loop-row.invariant.1 in
-    let inside = row_left so c.in-Some.row.now c.next.new.self.rest.now steps.1.0 seven in
-    room_next so.put c.requires (omega (arith, seven, inside))
 
 pub loop-row-preserved : goal.loop-row-preserved
 loop-row-preserved c =
@@ -33,6 +24,3 @@ loop-row-preserved c =
       rw (length-append c.loop-row.yielded (c.in-Some.row ∷ []))
           (rows_more c.loop-row.invariant.2 c.in-Some.row.now c.next.new.self.rest.now steps.1.0 seven c.put_line.ensures),
     )
-
-pub returns : goal.returns
-returns c = let few = c.in-None.ensures.steps.1.0 in rows_all c.loop-row.invariant.2 (omega (arith, few, c.loop-row.invariant.1))

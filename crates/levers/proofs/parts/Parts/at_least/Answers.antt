@@ -9,7 +9,7 @@ returns-then-self-least c =
     let s = c.args in
     missed s.least s.self.whole s.self.off refl (omega arith)
 
-pub returns : goal.returns
-returns c =
+pub returns-else-self-least : goal.returns-else-self-least
+returns-else-self-least c =
     let s = c.args in
     met s.least s.self.whole s.self.off refl (omega arith)

@@ -12,5 +12,5 @@ overflow_add-self-2 c = let s = c.args.self.now in omega (arith, s.kn_in_range.n
 pub returns-then-self-first : goal.returns-then-self-first
 returns-then-self-first c = later_greater _ _ _ _ (omega arith)
 
-pub returns : goal.returns
-returns c = first_greater _ _ _ _ (omega arith)
+pub returns-else-self-first : goal.returns-else-self-first
+returns-else-self-first c = first_greater _ _ _ _ (omega arith)

@@ -5,10 +5,10 @@ use native.Mathlib.Omega.{arith}
 use Rattle.ranges.proofs.Outside.{some_place, none_place}
 use Rattle.tally.specs.Private.Trying.{unsound, beyond, nowhere, none}
 use Rattle.tally.specs.Tally.{sound}
-use Rattle.tally.proofs.tried.Goals as goal
-use Rattle.tally.proofs.tried.Goals.{Else-not-is_sound}
+use Rattle.tally.proofs.Tally.tried.Goals as goal
+use Rattle.tally.proofs.Tally.tried.Goals.{Else-not-is_sound}
 
-is_sound : (c : Else-not-is_sound) → sound c.args.tally ≡ true
+is_sound : (c : Else-not-is_sound) → sound c.args.self.now ≡ true
 is_sound c = sym c.is_sound.ensures ∙ c.if-not-is_sound.false
 
 pub returns-then-not-is_sound : goal.returns-then-not-is_sound

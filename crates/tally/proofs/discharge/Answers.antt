@@ -1,0 +1,35 @@
+-- The first tests; then the slot is tested, and freed. Assumes nothing.
+use mathlib.Core.Path.{◌≡◌, refl}
+use borrow.Author.Tests.{not-true, not-false}
+use lib.ListN.{length}
+use Rattle.std.proofs.Common.{rules}
+use Rattle.std.proofs.lemmas.Result.{err_from_is_err_and}
+use Rattle.tally.specs.Tally.{slot_count, no_item}
+use Rattle.tally.proofs.Stepping.{Passed, passed_all, discharges_tried, discharges_empty, discharges_done, fitting_discharge, refused_as, done_as}
+use Rattle.tally.proofs.discharge.Goals as goal
+use Rattle.tally.proofs.discharge.Goals.{In_ok-tried}
+
+pub returns-in_err-tried : goal.returns-in_err-tried
+returns-in_err-tried c =
+    let s = c.args in
+    let p = err_from_is_err_and c.from_residual.result c.from_residual.ensures.1 in
+    rw (p.1, p.2) (refused_as refl (discharges_tried s.slot s.tally.now c.in_err-tried.ensures refl))
+
+passed : (c : In_ok-tried) → let s = c.args in Passed s.tally.now no_item s.slot
+passed c = let s = c.args in passed_all c.in_ok-tried.ensures refl
+
+pub returns-then-not-was : goal.returns-then-not-was
+returns-then-not-was c =
+    let s = c.args in
+    refused_as c.at.ensures (discharges_empty s.slot s.tally.now (passed (goal.at.returns-then-not-was c).In_ok-tried) (not-true _ c.if-not-was.true))
+
+pub put-requires : goal.put-requires
+put-requires c =
+    let s = c.args in
+    let all : length c.args.tally.now.slots ≡ slot_count = search rules in
+    fitting_discharge s.slot s.tally.now (passed (goal.at.put-requires c).In_ok-tried) all
+
+pub returns : goal.returns
+returns c =
+    let s = c.args in
+    done_as c.put.ensures (discharges_done s.slot s.tally.now (passed (goal.at.returns c).In_ok-tried) (not-false _ c.if-not-was.false))
