@@ -52,6 +52,7 @@ impl Cursor<'_> {
         ensures { Step (numbers_by (section_of kind) (length table.old)) (λ ok. table.new) self.old self.new result }
     {
         let bounds = kind.bounds();
+        // By the place, which chooses the range, too.
         for i in 0..table.len() {
             table[i] = self.number(bounds[i % bounds.len()], Reason::OutOfRange)?;
         }

@@ -1,4 +1,4 @@
--- What a call comes to. Every promise of this project says `paper answer ≡ outcomeOf inputs`, with an outcome on both sides.
+-- What a call comes to. Every promise of this project says `paper answer ≡ outcome_of inputs`, with an outcome on both sides.
 use Rattle.std.specs.Prelude.{ℕ, true, ◌≤◌, ◌≡◌, List, ◌++◌, length, drop}
 use Rattle.ranges.specs.Refusals.{first_refusal, last_refusal, is_given}
 

@@ -143,7 +143,8 @@ pub fn bad_particular(p: Particulars) -> Option<usize>
     None
 }
 
-// Whether so many numbers are whole items, and no more than there may be.
+// Whether so many numbers are whole items, and no more than there may be. This and the next name the paper's two tables, by the one call
+// below: so no caller can take the one's limit for the other's.
 pub fn items_fit(count: usize) -> bool
     ensures { result ≡ whole_records item_width most_items count }
 {

@@ -63,7 +63,7 @@ impl Refusal {
 
     pub const TANKS_AT: usize = 4_000;
 
-    // The tables by number, as the places of a wrong size.
+    // The tables, as the places of a wrong size: numbers, since a place of the paper is one.
     pub const HALF_BREADTH_TABLE: usize = 0;
 
     pub const ITEM_TABLE: usize = 1;
