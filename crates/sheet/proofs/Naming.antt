@@ -9,13 +9,12 @@ use Prim.Native.Nat.{ℕ, ◌<◌}
 use native.Mathlib.Decide.{dec_lt}
 use native.Mathlib.Omega.{arith}
 use lib.ListN.{length}
+use Rattle.std.specs.Prelude.{Option, None, Some}
 use Rattle.loading.specs.declared.Reading.{Reading}
 use Rattle.loading.specs.declared.Reading.TheVariants.{Lesser, StraightLine}
 use Rattle.sheet.specs.Names.{name_of, Names, Asks}
-use Rattle.sheet.specs.declared.names.Named.{Named}
-use Rattle.sheet.specs.declared.names.Named.TheVariants.{By, Unknown}
 
-pub neither : (word : List ℕ) → (word ≡ name_of Lesser → ⊥) → (word ≡ name_of StraightLine → ⊥) → Names word Unknown
+pub neither : (word : List ℕ) → (word ≡ name_of Lesser → ⊥) → (word ≡ name_of StraightLine → ⊥) → Names word None
 neither word l s Lesser = l
 neither word l s StraightLine = s
 
@@ -26,13 +25,13 @@ name_is_one Lesser StraightLine e = absurd (omega (arith, ap length e))
 name_is_one StraightLine Lesser e = absurd (omega (arith, ap length e))
 name_is_one StraightLine StraightLine e = refl
 
-pub names_unique : (word : List ℕ) (a b : Named) → Names word a → Names word b → a ≡ b
-names_unique word (By a) (By b) m n = ap By (name_is_one a b (sym m ∙ n))
-names_unique word (By a) Unknown m n = absurd (n a m)
-names_unique word Unknown (By b) m n = absurd (m b n)
-names_unique word Unknown Unknown m n = refl
+pub names_unique : (word : List ℕ) (a b : Option Reading) → Names word a → Names word b → a ≡ b
+names_unique word (Some a) (Some b) m n = ap Some (name_is_one a b (sym m ∙ n))
+names_unique word (Some a) None m n = absurd (n a m)
+names_unique word None (Some b) m n = absurd (m b n)
+names_unique word None None m n = refl
 
-pub asks_unique : (words : ℕ) (word : List ℕ) (a b : Named) → Asks words word a → Asks words word b → a ≡ b
+pub asks_unique : (words : ℕ) (word : List ℕ) (a b : Option Reading) → Asks words word a → Asks words word b → a ≡ b
 asks_unique words word a b m n = by_count (dec_lt words 2) (dec_lt 2 words)
   where
     by_count : Dec (words < 2) → Dec (2 < words) → a ≡ b

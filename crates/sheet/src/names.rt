@@ -5,52 +5,42 @@ use loading::Reading;
 use std::env::FillError;
 use std::rt::Env;
 
-// What a word names.
-#[derive(Clone, Copy)]
-pub(crate) enum Named {
-    By(Reading),
-    Unknown,
-}
-
 // The longest name is "straight-line". A word that is longer is none.
 const LONGEST_NAME: usize = 13;
 
-// What this word names.
-fn reading_of(word: &[u8]) -> Named
+// The reading that this word names.
+fn reading_of(word: &[u8]) -> Option<Reading>
     ensures { Names word.now result }
 {
     match word {
-        b"lesser" => Named::By(Reading::Lesser),
-        b"straight-line" => Named::By(Reading::StraightLine),
-        _ => Named::Unknown,
+        b"lesser" => Some(Reading::Lesser),
+        b"straight-line" => Some(Reading::StraightLine),
+        _ => None,
     }
 }
 
-// What so many words ask for, the program's own name the first and this one after it.
-fn meant(words: usize, word: &[u8]) -> Named
+// The reading that so many words ask for, the program's own name the first and this one after it.
+fn meant(words: usize, word: &[u8]) -> Option<Reading>
     ensures { Asks words word.now result }
 {
     if words < 2 {
-        return Named::By(Reading::DEFAULT);
+        return Some(Reading::DEFAULT);
     }
     if 2 < words {
-        return Named::Unknown;
+        return None;
     }
     reading_of(word)
 }
 
 // How many words there are on the command line, the program's own name among them.
 fn count_words(rt: &HostRuntime) -> usize {
-    for i in 0..usize::MAX {
-        if let Err(FillError::NotPresent) = rt.arg(i, &mut []) {
-            return i;
-        }
-    }
-    usize::MAX
+    (0..usize::MAX)
+        .find(|i| matches!(rt.arg(*i, &mut []), Err(FillError::NotPresent)))
+        .unwrap_or(usize::MAX)
 }
 
-// What the command line asks for.
-pub(crate) fn asked(rt: &HostRuntime) -> Named {
+// The reading that the command line asks for. `Env::arg` and not `env::args`, which takes no word that is not UTF-8.
+pub(crate) fn asked(rt: &HostRuntime) -> Option<Reading> {
     let mut word = [0u8; LONGEST_NAME];
     // A word that is missing or longer counts as empty, which is no name.
     let length = rt.arg(1, &mut word).unwrap_or(0);

@@ -1,6 +1,5 @@
 // Conditions at their limits, over three rows made for them: KM rises from the first to the second and falls to the third.
-use crate::say;
-use loading::{Answer, Condition, Heel, Reading};
+use loading::{Condition, Heel, Reading};
 use ranges::Refusal;
 use std::io;
 
@@ -15,9 +14,9 @@ const BAD_ROWS: [u64; 14] = [
 ];
 
 pub(crate) fn print_all(rt: &impl Print) -> io::Result<()> {
-    say::bytes(rt, b"weights\n")?;
+    println!(rt; "weights")?;
     weights(rt, Reading::Lesser)?;
-    say::bytes(rt, b"weights by the straight line\n")?;
+    println!(rt; "weights by the straight line")?;
     weights(rt, Reading::StraightLine)?;
     metacentric_heights(rt)?;
     heels(rt)?;
@@ -32,16 +31,11 @@ fn one(rt: &impl Print, kg: i64, y: i64, z: i64) -> io::Result<()> {
 
 // At each row's own weight, a kilogram beside it and between rows, just too light and just too heavy.
 fn weights(rt: &impl Print, reading: Reading) -> io::Result<()> {
-    two(rt, reading, 99_999, 0)?;
-    two(rt, reading, 100_000, 0)?;
-    two(rt, reading, 100_001, 0)?;
-    two(rt, reading, 150_001, 0)?;
-    two(rt, reading, 199_999, 0)?;
-    two(rt, reading, 200_000, 0)?;
-    two(rt, reading, 200_001, 0)?;
-    two(rt, reading, 249_999, 0)?;
-    two(rt, reading, 299_999, 0)?;
-    two(rt, reading, 300_000, 0)?;
+    for kg in [
+        99_999, 100_000, 100_001, 150_001, 199_999, 200_000, 200_001, 249_999, 299_999, 300_000,
+    ] {
+        two(rt, reading, kg, 0)?;
+    }
     two(rt, reading, 300_000, 1)
 }
 
@@ -53,42 +47,37 @@ fn two(rt: &impl Print, reading: Reading, kg: i64, more: i64) -> io::Result<()> 
 
 // GM of 150, 149, 1, 0 and below.
 fn metacentric_heights(rt: &impl Print) -> io::Result<()> {
-    say::bytes(rt, b"metacentric heights\n")?;
-    one(rt, 100_000, 0, 1_850)?;
-    one(rt, 100_000, 0, 1_851)?;
-    one(rt, 100_000, 0, 1_999)?;
-    one(rt, 100_000, 0, 2_000)?;
-    one(rt, 100_000, 0, 30_000)
+    println!(rt; "metacentric heights")?;
+    for z in [1_850, 1_851, 1_999, 2_000, 30_000] {
+        one(rt, 100_000, 0, z)?;
+    }
+    Ok(())
 }
 
 // At the limit of heel and one kg·mm beyond it, to each side.
 fn heels(rt: &impl Print) -> io::Result<()> {
-    say::bytes(rt, b"heels\n")?;
-    three(rt, [70_000, 30_000, 0], [176, 177, 0])?;
-    three(rt, [70_000, 30_000, 0], [-176, -177, 0])?;
-    three(rt, [70_000, 29_999, 1], [176, 177, 178])?;
-    three(rt, [70_000, 29_999, 1], [-176, -177, -178])?;
+    println!(rt; "heels")?;
+    three(rt, [(70_000, 176), (30_000, 177), (0, 0)])?;
+    three(rt, [(70_000, -176), (30_000, -177), (0, 0)])?;
+    three(rt, [(70_000, 176), (29_999, 177), (1, 178)])?;
+    three(rt, [(70_000, -176), (29_999, -177), (1, -178)])?;
     one(rt, 100_000, 1, 2_001)
 }
 
-// Three items a metre up, by their weights and how far they stand to starboard.
-fn three(rt: &impl Print, kg: [i64; 3], y: [i64; 3]) -> io::Result<()> {
-    let items = [
-        kg[0], 0, y[0], 1_000, kg[1], 0, y[1], 1_000, kg[2], 0, y[2], 1_000,
-    ];
+// Three items a metre up, each by its weight and how far it stands to starboard.
+fn three(rt: &impl Print, items: [(i64, i64); 3]) -> io::Result<()> {
+    let [(a, a_off), (b, b_off), (c, c_off)] = items;
+    let items = [a, 0, a_off, 1_000, b, 0, b_off, 1_000, c, 0, c_off, 1_000];
     try_load(rt, &items, &[], &ROWS)
 }
 
 // A tank half full, full, empty, full but for a kilogram, at 98 per cent and a kilogram below it; and one too full.
 fn tanks(rt: &impl Print) -> io::Result<()> {
-    say::bytes(rt, b"tanks\n")?;
-    one_tank(rt, 5_000)?;
-    one_tank(rt, 8_000)?;
-    one_tank(rt, 0)?;
-    one_tank(rt, 7_999)?;
-    one_tank(rt, 7_840)?;
-    one_tank(rt, 7_839)?;
-    one_tank(rt, 8_001)
+    println!(rt; "tanks")?;
+    for kg in [5_000, 8_000, 0, 7_999, 7_840, 7_839, 8_001] {
+        one_tank(rt, kg)?;
+    }
+    Ok(())
 }
 
 fn one_tank(rt: &impl Print, kg: i64) -> io::Result<()> {
@@ -101,7 +90,7 @@ fn one_tank(rt: &impl Print, kg: i64) -> io::Result<()> {
 }
 
 fn refusals(rt: &impl Print) -> io::Result<()> {
-    say::bytes(rt, b"refusals\n")?;
+    println!(rt; "refusals")?;
     refused_tables(rt)?;
     refused_numbers(rt)
 }
@@ -127,43 +116,27 @@ fn try_load(rt: &impl Print, items: &[i64], tanks: &[i64], rows: &[u64]) -> io::
     print_answer(rt, loading::condition_of(items, tanks, rows))
 }
 
-fn print_answer(rt: &impl Print, answer: Answer) -> io::Result<()> {
+fn print_answer(rt: &impl Print, answer: Result<Condition, Refusal>) -> io::Result<()> {
     match answer {
-        Answer::Refused(refusal) => print_refusal(rt, refusal),
-        Answer::Laden(condition) => print_condition(rt, condition),
+        Err(refusal) => println!(rt; "E {} {}", refusal.reason.number(), refusal.place),
+        Ok(condition) => print_condition(rt, condition),
     }
 }
 
-fn print_refusal(rt: &impl Print, refusal: Refusal) -> io::Result<()> {
-    say::bytes(rt, b"E")?;
-    say::whole(rt, refusal.number)?;
-    say::whole(rt, refusal.place as u64)?;
-    say::bytes(rt, b"\n")
-}
-
 fn print_condition(rt: &impl Print, c: Condition) -> io::Result<()> {
-    let gm = c.gm;
-    let transverse_moment = c.transverse_moment;
-    let heel = c.heel;
-    say::bytes(rt, b"C")?;
-    say::whole(rt, c.weight)?;
-    say::whole(rt, c.draft)?;
-    say::whole(rt, c.km)?;
-    say::whole(rt, c.lcg)?;
-    say::whole(rt, c.vertical_moment)?;
-    say::whole(rt, c.free_surface)?;
-    say::field(rt, gm)?;
-    say::field(rt, transverse_moment)?;
-    print_heel(rt, heel)?;
-    say::whole(rt, c.passes as u64)?;
-    say::bytes(rt, b"\n")
+    print!(rt; "C {} {} {} {}", c.weight, c.draft, c.km, c.lcg)?;
+    print!(rt;
+        " {} {} {} {}",
+        c.vertical_moment, c.free_surface, c.gm, c.transverse_moment
+    )?;
+    println!(rt; " {} {}", name_of(c.heel), u8::from(c.passes))
 }
 
-fn print_heel(rt: &impl Print, heel: Heel) -> io::Result<()> {
+fn name_of(heel: Heel) -> &'static str {
     match heel {
-        Heel::Unstable => say::bytes(rt, b" unstable"),
-        Heel::Upright => say::bytes(rt, b" upright"),
-        Heel::Heeled(_) => say::bytes(rt, b" heeled"),
-        Heel::Beyond => say::bytes(rt, b" beyond"),
+        Heel::Unstable => "unstable",
+        Heel::Upright => "upright",
+        Heel::Heeled(_) => "heeled",
+        Heel::Beyond => "beyond",
     }
 }

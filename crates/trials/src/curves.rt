@@ -1,6 +1,5 @@
 // The worked example of the course notes: a semicircle of radius 6, by three, four and five ordinates. Its areas there: 48, 50.912 and 53.569.
-use crate::say;
-use simpson::CurveSum;
+use simpson::CurveError;
 use std::io;
 
 // Ordinates in millionths; 6, 4 and 3 are the intervals.
@@ -13,18 +12,15 @@ pub(crate) fn print_all(rt: &impl Print) -> io::Result<()> {
 // The area in thousandths, given how many parts of the sum make one.
 fn print_area(rt: &impl Print, parts: u64, ordinates: &[u64]) -> io::Result<()> {
     match simpson::curve_sum(ordinates) {
-        CurveSum::Sum(sum) => say::number(rt, b"semicircle ", nearest(sum, parts)),
-        CurveSum::TooShort => say::bytes(rt, b"too short\n"),
-        CurveSum::TooLarge => say::bytes(rt, b"too large\n"),
+        Ok(sum) => println!(rt; "semicircle {}", nearest(sum, parts)),
+        Err(CurveError::TooShort) => println!(rt; "too short"),
+        Err(CurveError::TooLarge) => println!(rt; "too large"),
     }
 }
 
 // The quotient rounded to the nearest; 0 where the divisor is, or the sum is larger than any here.
 fn nearest(sum: u64, parts: u64) -> u64 {
-    if parts == 0 {
-        return 0;
-    }
-    if 1_000_000_000 < sum {
+    if parts == 0 || 1_000_000_000 < sum {
         return 0;
     }
     (sum + parts / 2) / parts

@@ -1,6 +1,7 @@
 // Runs what is not proved by computing: outside files, their hulls by both engines, outside cases of the other calls, a worked example, and conditions at their limits. What it must print stands in stdout.
 #![tactic(auto)]
 
+mod barges;
 mod calls;
 mod conditions;
 mod curves;
@@ -8,12 +9,11 @@ mod data;
 mod files;
 mod hulls;
 mod inclinings;
-mod places;
 mod profiles;
-mod say;
 mod surfaces;
-mod tables;
 mod tallies;
+mod text;
+mod trying;
 
 use std::io;
 use std::rt::Files;

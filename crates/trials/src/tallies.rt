@@ -1,129 +1,99 @@
 // A case of the running tally: a count and so many steps, and its answer, a line a step.
-use crate::places;
-use crate::places::NOWHERE;
+use crate::calls;
+use crate::calls::Call;
+use crate::text::Text;
 use loading::Totals;
-use tally::{Answer, Item, Place, Stepped, Tally};
+use std::fmt;
+use std::fmt::Write;
+use tally::{Item, Place, Stepped, Tally};
 
-// Where an item is to stand, and the place after its numbers.
+// A step of a case, each to a slot.
 #[derive(Clone, Copy)]
-struct Placed {
-    place: Place,
-    next: usize,
+enum Step {
+    Load(usize, Item),
+    Discharge(usize),
+    Shift(usize, Place),
 }
 
-// A step that was taken, and the place after its numbers.
-#[derive(Clone, Copy)]
-struct Taken {
-    stepped: Stepped,
-    next: usize,
-}
+pub(crate) struct Tallies;
 
-// Whether the steps of a text, taken from an empty tally on, give the answer's lines, and nothing is left of either.
-pub(crate) fn is_answered(text: &[u8], answer: &[u8]) -> bool {
-    let count = places::whole_at(text, 0);
-    let steps = count.value;
-    let mut next = places::after(text, count.next, b"\n");
-    let mut answered = 0;
-    let mut tally = tally::empty();
-    let mut i = 0;
-    while i < steps {
-        if next == NOWHERE {
-            return false;
+impl Call for Tallies {
+    const START: &'static str = "tally-";
+
+    const DIFFERING: &'static str = "tallies that differ ";
+
+    const FEWEST: u64 = 40;
+
+    // The steps are taken one after another, from an empty tally on.
+    fn compare(given: &mut Text, answer: &mut Text) -> Option<()> {
+        let steps: u64 = given.number()?;
+        given.line_end()?;
+        let mut tally = tally::empty();
+        for _ in 0..steps {
+            let step = Step::read(given)?;
+            let stepped = step.taken(tally);
+            write_answer(answer, &stepped).ok()?;
+            tally = stepped.tally;
         }
-        let taken = step(tally, text, next);
-        let stepped = taken.stepped;
-        next = places::after(text, taken.next, b"\n");
-        answered = after_answer(answer, answered, stepped);
-        tally = stepped.tally;
-        i += 1;
-    }
-    next == text.len() && answered == answer.len()
-}
-
-// Takes the step that stands at a place, by its letter; under any other letter nothing is read.
-fn step(tally: Tally, text: &[u8], at: usize) -> Taken {
-    let from = places::after(text, at, b"L ");
-    if from != NOWHERE {
-        return load(tally, text, from);
-    }
-    let from = places::after(text, at, b"D ");
-    if from != NOWHERE {
-        return discharge(tally, text, from);
-    }
-    shift(tally, text, places::after(text, at, b"S "))
-}
-
-// Loads an item: slot, kg, x, y and z.
-fn load(tally: Tally, text: &[u8], at: usize) -> Taken {
-    let slot = places::whole_at(text, at);
-    let kg = places::number_after(text, slot.next);
-    let placed = place_after(text, kg.next);
-    let place = placed.place;
-    let item = Item {
-        kg: kg.value,
-        x: place.x,
-        y: place.y,
-        z: place.z,
-    };
-    let stepped = tally::loaded(tally, slot.value, item);
-    Taken {
-        stepped,
-        next: placed.next,
+        Some(())
     }
 }
 
-// Discharges a slot.
-fn discharge(tally: Tally, text: &[u8], at: usize) -> Taken {
-    let slot = places::whole_at(text, at);
-    let stepped = tally::discharged(tally, slot.value);
-    Taken {
-        stepped,
-        next: slot.next,
+impl Step {
+    // Reads the line of a step, by its letter; under any other letter there is none.
+    fn read(given: &mut Text) -> Option<Step> {
+        let step = if given.piece(b"L ").is_some() {
+            Step::Load(given.number()?, item_of(given)?)
+        } else if given.piece(b"D ").is_some() {
+            Step::Discharge(given.number()?)
+        } else {
+            given.piece(b"S ")?;
+            Step::Shift(given.number()?, place_of(given)?)
+        };
+        given.line_end()?;
+        Some(step)
+    }
+
+    fn taken(self, tally: Tally) -> Stepped {
+        match self {
+            Step::Load(slot, item) => tally::loaded(tally, slot, item),
+            Step::Discharge(slot) => tally::discharged(tally, slot),
+            Step::Shift(slot, place) => tally::shifted(tally, slot, place),
+        }
     }
 }
 
-// Shifts a slot's item: slot, x, y and z.
-fn shift(tally: Tally, text: &[u8], at: usize) -> Taken {
-    let slot = places::whole_at(text, at);
-    let placed = place_after(text, slot.next);
-    let stepped = tally::shifted(tally, slot.value, placed.place);
-    Taken {
-        stepped,
-        next: placed.next,
-    }
+// Reads kg, x, y and z.
+fn item_of(given: &mut Text) -> Option<Item> {
+    Some(Item {
+        kg: given.next()?,
+        x: given.next()?,
+        y: given.next()?,
+        z: given.next()?,
+    })
 }
 
 // Reads x, y and z.
-fn place_after(text: &[u8], at: usize) -> Placed {
-    let x = places::number_after(text, at);
-    let y = places::number_after(text, x.next);
-    let z = places::number_after(text, y.next);
-    Placed {
-        place: Place {
-            x: x.value,
-            y: y.value,
-            z: z.value,
-        },
-        next: z.next,
+fn place_of(given: &mut Text) -> Option<Place> {
+    Some(Place {
+        x: given.next()?,
+        y: given.next()?,
+        z: given.next()?,
+    })
+}
+
+// A step's line in the answer: A and the totals, or a refusal.
+fn write_answer(answer: &mut Text, stepped: &Stepped) -> fmt::Result {
+    match stepped.answer {
+        Ok(()) => write_totals(answer, stepped.tally.totals),
+        Err(refusal) => calls::write_refusal(answer, refusal),
     }
 }
 
-// The place after a step's line in the answer.
-fn after_answer(text: &[u8], at: usize, stepped: Stepped) -> usize {
-    let tally = stepped.tally;
-    let answer = stepped.answer;
-    match answer {
-        Answer::Done => after_totals(text, at, tally.totals),
-        Answer::Refused(refusal) => places::after_refusal(text, at, refusal),
-    }
-}
-
-// The place after the line of a step that was done: A and the totals.
-fn after_totals(text: &[u8], at: usize, totals: Totals) -> usize {
-    let mark = places::after(text, at, b"A");
-    let weight = places::after_number(text, mark, arithmetic::signed(totals.weight));
-    let longitudinal = places::after_number(text, weight, arithmetic::signed(totals.longitudinal));
-    let vertical = places::after_number(text, longitudinal, arithmetic::signed(totals.vertical));
-    let transverse = places::after_number(text, vertical, totals.transverse);
-    places::after(text, transverse, b"\n")
+fn write_totals(answer: &mut Text, totals: Totals) -> fmt::Result {
+    writeln!(
+        answer,
+        "A {} {} {} {}",
+        totals.weight, totals.longitudinal, totals.vertical, totals.transverse
+    )
 }

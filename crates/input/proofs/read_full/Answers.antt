@@ -4,7 +4,7 @@ use Rattle.std.proofs.lemmas.List.{length-take-le, take-append-le}
 use Rattle.std.proofs.Math.Seq.{take-append-add}
 use Rattle.std.specs.Io.KnownBytes.{Consumes}
 use Rattle.std.proofs.KnownBytes.{Consumes-nil, Consumes-trans}
-use Rattle.sheet.proofs.read_full.Goals as goal
+use Rattle.input.proofs.read_full.Goals as goal
 
 -- bytes that are put behind the first a of a list
 put_behind : (a b : ℕ) (xs ys zs : List ℕ) → a ≤ length xs → b ≤ length ys → take a xs ++ take b ys ≡ take (a + b) (take a xs ++ (ys ++ zs))
