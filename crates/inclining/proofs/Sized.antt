@@ -1,7 +1,6 @@
 -- The sizes of the lent tables.
 --     shifts_by, shifts_told                     so many numbers as shifts
 --     wrong_shifts, wrong_off, wrong_on, short_room, none_wrong      the first table of a wrong size
---     table_told                                 the table as the code answers it
 --     Sized, sized                               what it tells that none is
 -- Assumes nothing.
 use mathlib.Core.Path.{◌≡◌, sym, ap, ◌∙◌}
@@ -15,10 +14,7 @@ use Rattle.arithmetic.proofs.Choice.{chosen}
 use Rattle.arithmetic.proofs.Tests.{both, by_test}
 use Rattle.ranges.specs.Fields.{within, least, most}
 use Rattle.ranges.specs.Sizes.{shift_width}
-use Rattle.ranges.specs.Private.Bounds.{place_in}
 use Rattle.ranges.proofs.Facts.{within_whole}
-use Rattle.ranges.proofs.Outside.{place_some}
-use Rattle.std.specs.Prelude.{Some}
 use Rattle.inclining.specs.Inclining.{shift_count, shifts_fit, items_fit, shift_table, off_table, on_table, gm_table}
 use Rattle.inclining.specs.Private.Heeling.{table_count, wrong_table}
 
@@ -65,10 +61,6 @@ module _ (shifts off on room : ℕ) where
         pub none_wrong : shifts / shift_width ≤ room → 4 ≡ wrong_table shifts off on room
         unfolding wrong_table
         none_wrong h = sym (simp (s, f, n, le-ltb room (shifts / shift_width) h, chosen))
-
-  -- the table as the code answers it
-  pub table_told : {table : ℕ} → table ≡ wrong_table shifts off on room → table < table_count → Some table ≡ place_in table_count (wrong_table shifts off on room)
-  table_told e l = ap Some e ∙ sym (place_some (omega (arith, e)))
 
   pub sized : table_count ≤ wrong_table shifts off on room → Sized
   sized all =

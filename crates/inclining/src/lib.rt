@@ -67,6 +67,7 @@ fn shifts_fit(count: usize) -> bool
 }
 
 // The first table of a wrong size, by its number.
+#[tactic(auto, using(arithmetic::proofs::Choice::told), unfolding(crate::specs::Private::Heeling::wrong_table, ranges::specs::Private::Bounds::place_in))]
 fn wrong_table(shifts: usize, off: usize, on: usize, room: usize) -> Option<usize>
     ensures { result ≡ place_in table_count (wrong_table shifts off on room) }
 {

@@ -40,12 +40,12 @@ fn put_file(reading: Reading, text: &[u8], to: &mut Lines<'_>) -> Result<(), Ref
     let mut half_breadths = [0u64; ranges::HALF_BREADTH_ROOM];
     let mut items = [0i64; ranges::ITEM_ROOM];
     let mut tanks = [0i64; ranges::TANK_ROOM];
-    let mut rows = [0u64; ROW_ROOM];
     let summary = offsets::read_file(text, &mut half_breadths, &mut items, &mut tanks)?;
     let particulars = summary.particulars;
     let points = (particulars.n + 1) * (particulars.m + 1);
     let item_numbers = ranges::ITEM_WIDTH * summary.items;
     let tank_numbers = ranges::TANK_WIDTH * summary.tanks;
+    let mut rows = [0u64; ROW_ROOM];
     let count = hydrostatics::make_rows(&half_breadths[..points], particulars, &mut rows)?;
     let made = &rows[..ROW_WIDTH * count];
     lines::put_rows(to, made);

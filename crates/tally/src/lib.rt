@@ -1,5 +1,5 @@
 // The running tally: 32 slots, each empty or with an item, and the totals of what is aboard.
-// A step takes the tally by value and hands it back beside its answer; a refused step hands the same tally back.
+// A step changes a lent tally where it stands, or takes one by value and hands it back beside its answer; a refused step changes nothing.
 #![tactic(auto)]
 
 ghost use Rattle.std.specs.Prelude.{◌≡◌};
@@ -107,7 +107,7 @@ pub fn empty() -> Tally
     }
 }
 
-// Loads an item into an empty slot of a lent tally; a refused step leaves it as it was.
+// Loads an item into an empty slot.
 pub fn load(tally: &mut Tally, slot: usize, item: Item) -> Result<(), Refusal>
     ensures { HandsBack tally.old (loads slot item tally.old) (record { answer = result; tally = tally.new }) }
 {
