@@ -26,7 +26,7 @@ use Rattle.ranges.specs.Outside.{outside_from, first_outside, outside_then}
 use Rattle.ranges.specs.Refusals.{out_of_range, wrong_size}
 use Rattle.ranges.proofs.Facts.{all_within, within_whole, wholes_in_range}
 use Rattle.ranges.proofs.Outside.{then_within, then_after, then_inside, place_some}
-use Rattle.ranges.specs.Private.Bounds.{place_in}
+use Rattle.ranges.specs.Bounds.{place_in}
 use Rattle.std.specs.Prelude.{Some}
 use Rattle.hoppers.specs.Hopper.{width_count, counts_fit, count, outside, found, surface_of}
 use Rattle.hoppers.specs.Private.Side.{SurfaceInRange}

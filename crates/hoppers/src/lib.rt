@@ -5,7 +5,7 @@ ghost use Rattle.std.specs.Prelude.{◌≡◌};
 ghost use Rattle.hoppers.specs.Hopper.{counts_fit, count, outside, MakesSurface};
 ghost use Rattle.hoppers.specs.Private.Side.{SideInRange, SurfaceInRange, side_of};
 ghost use Rattle.hoppers.specs.Surface.{inertia};
-ghost use Rattle.ranges.specs.Private.Bounds.{place_in};
+ghost use Rattle.ranges.specs.Bounds.{place_in};
 
 use ranges::{Bounds, Number, Reason, Record, Refusal};
 
@@ -39,7 +39,7 @@ fn counts_fit(port: usize, starboard: usize) -> bool
 }
 
 // The position of the first number out of its range: of the widths to port, those to starboard, the interval, the density.
-// The four stay parameters: in a struct of lent tables each clause would read `self.entry.port.now` for `port.now`.
+// The four stay parameters: a struct of them was tried, and each clause read `self.entry.port.now` for `port.now`, with no fact to keep.
 fn outside_of(port: &[u64], starboard: &[u64], interval: u64, density: u64) -> Option<usize>
     ensures { result ≡ place_in (count port.now starboard.now interval density) (outside port.now starboard.now interval density) }
 {

@@ -22,7 +22,7 @@ use Rattle.ranges.specs.declared.Particulars.{Particulars}
 use Rattle.ranges.specs.declared.refusal.Reason.{Reason}
 use Rattle.ranges.specs.declared.refusal.Refusal.{Refusal}
 use Rattle.std.specs.Prelude.{Result, None, Err}
-use Rattle.ranges.specs.Private.Bounds.{place_in}
+use Rattle.ranges.specs.Bounds.{place_in}
 use Rattle.ranges.proofs.Outside.{none_place}
 use Rattle.ranges.proofs.Facts.{particulars_in_range, half_breadths_in_range}
 use Rattle.ranges.specs.Reasons.{number_of, paper}

@@ -15,7 +15,7 @@ use Rattle.ranges.specs.Outcome.{answered, refused}
 use Rattle.ranges.specs.Outside.{first_outside}
 use Rattle.ranges.specs.Refusals.{out_of_range}
 use Rattle.ranges.specs.Sizes.{row_width}
-use Rattle.ranges.specs.Private.Bounds.{place_in}
+use Rattle.ranges.specs.Bounds.{place_in}
 use Rattle.ranges.proofs.Outside.{outside_le, some_place, none_place}
 use Rattle.std.specs.Prelude.{Some, None}
 use Rattle.hydrostatics.specs.Display.{figures_of, display_of}

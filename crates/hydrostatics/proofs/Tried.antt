@@ -3,6 +3,7 @@
 --     lines_in_range                a complete hull whose waterlines are in range is in range
 --     one_outside, all_inside, found       what the walk over the table finds, or does not
 --     none_outside                  and no number of its table is outside
+--     tried_made, tried_outside     what an engine answers, either way
 -- Assumes nothing.
 use mathlib.Core.Path.{◌≡◌, refl, sym, subst, ◌∙◌}
 use mathlib.Core.Bool.{true, false}
@@ -13,7 +14,7 @@ use native.Mathlib.Omega.{arith}
 use lib.IntN.{pos}
 use lib.ListN.{length}
 use Rattle.arithmetic.proofs.Tests.{never}
-use Rattle.ranges.specs.Private.Bounds.{place_in}
+use Rattle.ranges.specs.Bounds.{place_in}
 use Rattle.ranges.proofs.Outside.{place_some, some_place, none_place}
 use Rattle.std.specs.Prelude.{Option, Some, None}
 use Rattle.std.specs.Option.{is_some, IsSome}
@@ -25,7 +26,9 @@ use Rattle.ranges.specs.declared.Particulars.{Particulars}
 use Rattle.ranges.proofs.Facts.{everywhere, wholes_inside, whole_outside}
 use Rattle.hydrostatics.specs.Hull.{half_breadth}
 use Rattle.hydrostatics.specs.Private.Hull.{Complete, InRange, OneOutside}
+use Rattle.hydrostatics.specs.Private.Sums.{MakesSums, TriedSums}
 use Rattle.hydrostatics.specs.Private.Waterplanes.{LineInRange}
+use Rattle.hydrostatics.specs.declared.table.Sums.{Sums}
 use Rattle.hydrostatics.proofs.Limits.{place_within}
 
 module _ {table : List ℕ} {p : Particulars} (hull : Complete table p) where
@@ -59,3 +62,10 @@ found table h e = subst (λ o. IsSome o) (sym (e ∙ place_some h)) refl
 
 pub none_outside : {table : List ℕ} {p : Particulars} → InRange table p → first_outside Fields.half_breadth (map pos table) ≡ length table
 none_outside {table} hull = wholes_inside 0 (most (range_of 5)) table (λ k l. (omega arith, hull.half_breadths_ranged k))
+
+-- ---- what an engine answers
+pub tried_made : {table : List ℕ} {p : Particulars} {sums : List Sums} → InRange table p → MakesSums table p sums → TriedSums table p (Some sums)
+tried_made hull made = (hull, made)
+
+pub tried_outside : (table : List ℕ) (p : Particulars) → OneOutside table → TriedSums table p None
+tried_outside table p out = out

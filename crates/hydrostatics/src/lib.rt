@@ -14,7 +14,7 @@ ghost use Rattle.hydrostatics.specs.Display.{figures_of, display_of};
 ghost use Rattle.hydrostatics.specs.Promise.{MakesRows};
 ghost use Rattle.hydrostatics.specs.Usable.{row_in};
 ghost use Rattle.ranges.specs.Fields.{row_ranges};
-ghost use Rattle.ranges.specs.Private.Bounds.{place_in};
+ghost use Rattle.ranges.specs.Bounds.{place_in};
 ghost use Rattle.ranges.specs.Reasons.{paper};
 ghost use Rattle.ranges.specs.Sizes.{row_width};
 ghost use Rattle.hydrostatics.specs.Row.{numbers_of};

@@ -21,7 +21,7 @@ use Rattle.ranges.specs.Refusals.{out_of_range, wrong_size}
 use Rattle.ranges.specs.Sizes.{shift_width}
 use Rattle.ranges.proofs.Facts.{all_within, within_whole}
 use Rattle.ranges.proofs.Outside.{outside_le, then_within, then_after, then_inside, place_some}
-use Rattle.ranges.specs.Private.Bounds.{place_in}
+use Rattle.ranges.specs.Bounds.{place_in}
 use Rattle.std.specs.Prelude.{Some}
 use Rattle.loading.specs.Items.{totals_of_items}
 use Rattle.loading.proofs.Itemised.{items_fitting, items_most}

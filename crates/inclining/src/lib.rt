@@ -2,7 +2,7 @@
 #![tactic(auto)]
 
 ghost use Rattle.std.specs.Prelude.{◌≡◌, ◌*◌, ◌/◌, ◌≤◌, length};
-ghost use Rattle.ranges.specs.Private.Bounds.{place_in};
+ghost use Rattle.ranges.specs.Bounds.{place_in};
 ghost use Rattle.ranges.specs.Reasons.{paper};
 ghost use Rattle.ranges.specs.Sizes.{shift_width};
 ghost use Rattle.loading.specs.Items.{totals_of_items};
@@ -49,7 +49,7 @@ struct Heeling {
 // How many shifts there may be.
 const SHIFTS: Bounds = Bounds::FromTo(2, 12);
 
-// The tables by number, as the places of a wrong size.
+// The tables by number, as the places of a wrong size: a place of the paper is one.
 const SHIFT_TABLE: usize = 0;
 
 const OFF_TABLE: usize = 1;
@@ -67,7 +67,7 @@ fn shifts_fit(count: usize) -> bool
 }
 
 // The first table of a wrong size, by its number.
-#[tactic(auto, using(arithmetic::proofs::Choice::told), unfolding(crate::specs::Private::Heeling::wrong_table, ranges::specs::Private::Bounds::place_in))]
+#[tactic(auto, using(arithmetic::proofs::Choice::told), unfolding(crate::specs::Private::Heeling::wrong_table, ranges::specs::Bounds::place_in))]
 fn wrong_table(shifts: usize, off: usize, on: usize, room: usize) -> Option<usize>
     ensures { result ≡ place_in table_count (wrong_table shifts off on room) }
 {
@@ -87,6 +87,7 @@ fn wrong_table(shifts: usize, off: usize, on: usize, room: usize) -> Option<usiz
 }
 
 // The position on the sheet of the first number out of its range: of the test's own, the shifts, the list to take off, the list to put on.
+// The three tables stay parameters, as the public call is lent them: no fact about them together stands in a clause.
 fn outside_of(test: Test, shifts: &[u64], off: &[i64], on: &[i64]) -> Option<usize>
     ensures { result ≡ place_in (count shifts.now off.now on.now) (outside test shifts.now off.now on.now) }
 {
@@ -188,6 +189,7 @@ fn totals_of(items: &[i64]) -> Totals
     requires { ListFits items.now }
     ensures { result ≡ totals_of_items items.now }
 {
+    // A list that fits, in range, has its totals.
     loading::item_totals(items).unwrap()
 }
 

@@ -18,7 +18,7 @@ use Rattle.ranges.specs.Outside.{first_outside}
 use Rattle.ranges.specs.Refusals.{out_of_range, wrong_size}
 use Rattle.ranges.proofs.Facts.{all_within, within_whole, wholes_in_range}
 use Rattle.ranges.proofs.Outside.{then_within, then_after, then_inside, place_some}
-use Rattle.ranges.specs.Private.Bounds.{place_in}
+use Rattle.ranges.specs.Bounds.{place_in}
 use Rattle.std.specs.Prelude.{Some}
 use Rattle.levers.specs.Criterion.{GM, profile}
 use Rattle.levers.specs.Levers.{GZ}

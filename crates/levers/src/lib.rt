@@ -6,7 +6,7 @@ mod tables;
 
 ghost use Rattle.std.specs.Prelude.{◌≡◌, ◌≤◌};
 ghost use Rattle.ranges.specs.Fields.{most, metacentre};
-ghost use Rattle.ranges.specs.Private.Bounds.{place_in};
+ghost use Rattle.ranges.specs.Bounds.{place_in};
 ghost use Rattle.levers.specs.Levers.{products};
 ghost use Rattle.levers.specs.Promise.{count, outside, MakesProfile};
 
@@ -43,7 +43,7 @@ pub struct Profile {
     pub rules: Rules,
 }
 
-// The angles, from 0 on.
+// How many angles there are, 5 degrees apart from 0 on.
 pub const ANGLES: usize = 13;
 
 // Their sines in millionths.

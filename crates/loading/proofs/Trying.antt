@@ -25,7 +25,7 @@ use Rattle.ranges.specs.Fields.{most, row_ranges}
 use Rattle.ranges.specs.Private.InRange.{row_range}
 use Rattle.ranges.specs.Outcome.{Outcome, answered, refused, and_then}
 use Rattle.ranges.specs.Outside.{first_outside}
-use Rattle.ranges.specs.Private.Bounds.{place_in}
+use Rattle.ranges.specs.Bounds.{place_in}
 use Rattle.ranges.proofs.Outside.{outside_le}
 use Rattle.ranges.specs.Refusals.{rows_not_usable, wrong_size, row_table}
 use Rattle.ranges.specs.Sizes.{whole_records, row_width, least_rows, most_rows}

@@ -42,7 +42,8 @@ fn km_between(reading: Reading, row: Row, next: Row, weight: u64) -> u64
 }
 
 // The last of the rows whose displacement is not above the weight.
-// Tried one by one: there are 19 at most, and the lent table is one slice of numbers and no slice of rows to search in.
+// Tried one by one, of 19 at most: `partition_point` over records of seven would read the displacement by its place in a row, and rest
+// on the rows' rising, which this search needs not know.
 fn row_below(rows: Rows, weight: u64) -> usize
     requires { (row_in rows.numbers.now 0).displacement ≤ weight }
     ensures { RowBelow rows.entry.numbers.now weight result }

@@ -128,7 +128,7 @@ fn rows_allowed(count: usize) -> bool
         && LEAST_ROWS <= count / hydrostatics::ROW_WIDTH
 }
 
-// What is aboard against the rows: 11 below the first, 12 above the last, and else the condition.
+// What is aboard against the rows: too light below the first, too heavy above the last, and else the condition.
 fn laden(reading: Reading, all: Aboard, rows: Rows) -> Result<Condition, Refusal>
     requires { Bearable all }
     ensures { paper result ≡ floats_with reading (hull rows.entry.numbers.now) all }

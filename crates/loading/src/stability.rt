@@ -25,7 +25,7 @@ pub(crate) fn gm_of(km: u64, moment: u64, weight: u64) -> i64
     less(km, arithmetic::rounded_up(moment, weight))
 }
 
-// v, or 0 where v is below 0.
+// v, or 0 where v is below 0; by arithmetic's two calls, since no other crate looks into a machine word.
 fn above_zero(v: i64) -> u64
     ensures { result ≡ above_zero v }
 {

@@ -82,7 +82,8 @@ impl Tank {
     }
 }
 
-// All tanks of a table together, or the first refusal: of each tank its eight numbers for 4, then 13.
+// All tanks of a table together, or the first refusal: of each tank its eight numbers against their ranges, then its contents
+// against its capacity.
 pub(crate) fn tanks_aboard(tanks: &[i64]) -> Result<Aboard, Refusal>
     requires { TanksWhole tanks.now }
     ensures { TanksTried tanks.now result }

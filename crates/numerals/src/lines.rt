@@ -28,7 +28,7 @@ impl Printable for i64 {
     }
 }
 
-// Lent room, and how many bytes of it are put.
+// Lent room, and how many bytes of it are put. No `Cursor` of std's, whose writes each answer a Result: here room is asked for before.
 #[derive(Drop)]
 pub struct Lines<'a> {
     text: &'a mut [u8],
@@ -52,7 +52,7 @@ impl<'a> Lines<'a> {
     pub fn len(&self) -> usize
         ensures { result ≡ length (said_in self.now) }
     {
-        self.at
+        self.text[..self.at].len()
     }
 
     // Puts a byte.

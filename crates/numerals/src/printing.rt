@@ -1,4 +1,5 @@
-// Printing into lent room. Where the room is too short it stays as it was, and the answer says how much is needed.
+// Printing into lent room. Where the room is too short it stays as it was, and the answer says how much is needed: a length and no
+// `Result`, since `Prints`, which the promise names, says that it is the text's in either case.
 ghost use Rattle.std.specs.Prelude.{true, ◌≡◌, ◌<◌, pos};
 ghost use Rattle.numerals.specs.Printed.{Prints};
 ghost use Rattle.numerals.specs.Private.Sign.{with_sign};

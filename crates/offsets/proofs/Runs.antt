@@ -16,7 +16,7 @@ use Rattle.std.proofs.lemmas.List.{get_or-map, take_all}
 use lib.Seq.{take-suc-set}
 use Rattle.ranges.specs.Fields.{Range, ◌to◌}
 use Rattle.ranges.specs.Outcome.{Outcome, answered, refused, and_then}
-use Rattle.ranges.specs.Private.Bounds.{range_by}
+use Rattle.ranges.specs.Bounds.{range_by}
 use Rattle.ranges.specs.Refusals.{out_of_range}
 use Rattle.ranges.specs.declared.bounds.Bounds.{Bounds}
 use Rattle.offsets.specs.Reading.{one, numbers}

@@ -81,7 +81,8 @@ fn parse(
     })
 }
 
-// How many half-breadths a hull has: one at each waterline of each station.
+// How many half-breadths a hull has: one at each waterline of each station. A method of `Particulars` would ask of hydrostatics, writer
+// and report that n and m are in range, to save them one product.
 fn points_of(hull: Particulars) -> usize
     requires { (hull.n ≤ most (range_of 0)) × (hull.m ≤ most (range_of 1)) }
     ensures { result ≡ points_of hull.n hull.m }

@@ -2,7 +2,7 @@
 // Those that read a section's numbers are in line, so that each section's loop has its ranges as constants: a fifth fewer instructions.
 ghost use Rattle.std.specs.Prelude.{◌≡◌, ◌*◌, ◌≤◌, IfOk, length, map, nat_abs};
 ghost use Rattle.ranges.specs.Outside.{numbers_of};
-ghost use Rattle.ranges.specs.Private.Bounds.{range_by, section_of};
+ghost use Rattle.ranges.specs.Bounds.{range_by, section_of};
 ghost use Rattle.ranges.specs.Reasons.{number_of};
 ghost use Rattle.offsets.specs.Private.Steps.{Step, one_by, count_by, numbers_by, section_by, particulars_by, front, Finishes};
 

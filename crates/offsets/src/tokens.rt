@@ -1,4 +1,5 @@
-// Tokens by place. Each byte of a text is looked at once, but for a separator after a token.
+// Tokens by place. Each byte of a text is looked at once, but for a token's first byte and the separator after it.
+// Functions of a text and a place, and no methods of `Cursor`: each looks at a place of its own, and moves nothing on.
 ghost use Rattle.std.specs.Prelude.{◌≡◌, length};
 ghost use Rattle.offsets.specs.Tokens.{is_separator};
 ghost use Rattle.offsets.specs.Private.Steps.{Finds, FindsAt, tokens_at, ends_here, place_after, IsByte, FirstByte};

@@ -14,8 +14,8 @@ use Rattle.std.specs.Prelude.{Some, None}
 use Rattle.std.proofs.lemmas.List.{get_or-map}
 use Rattle.ranges.specs.Fields.{Range, ◌to◌, within}
 use Rattle.ranges.specs.Outside.{outside_from, first_outside}
-use Rattle.ranges.specs.Private.Bounds.{range_by, place_in}
-use Rattle.ranges.specs.Private.Numbers.{ReadsEach}
+use Rattle.ranges.specs.Bounds.{range_by, place_in}
+use Rattle.ranges.specs.Numbers.{ReadsEach}
 use Rattle.ranges.specs.declared.bounds.Bounds.{Bounds}
 use Rattle.ranges.specs.declared.bounds.Bounds.TheVariants.{FromTo}
 use Rattle.ranges.proofs.Outside.{outside_step, outside_here, outside_end, place_some, place_none}

@@ -23,7 +23,7 @@ use Rattle.arithmetic.proofs.Choice.{chosen, if_either}
 use Rattle.arithmetic.proofs.Parts.{drop_step}
 use Rattle.arithmetic.proofs.Tests.{by_test}
 use Rattle.ranges.specs.Fields.{Range, ◌to◌, within}
-use Rattle.ranges.specs.Private.Bounds.{place_in}
+use Rattle.ranges.specs.Bounds.{place_in}
 use Rattle.ranges.specs.Outside.{outside_from, first_outside, outside_then}
 
 module _ (section : List Range) (table : List ℤ) (i : ℕ) where

@@ -6,5 +6,7 @@ pub mod Limits
 pub mod Fields
 pub mod Sizes
 pub mod Outside
+pub mod Bounds
+pub mod Numbers
 pub mod Sides
 pub mod Private

@@ -1,4 +1,2 @@
 -- Words of private contracts: no public promise is made in them.
 pub mod InRange
-pub mod Bounds
-pub mod Numbers

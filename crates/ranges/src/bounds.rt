@@ -1,8 +1,8 @@
 // The range of each number of the paper, and a number held against one.
 ghost use Rattle.std.specs.Prelude.{◌≡◌, ◌<◌, ℤ, List, pos, map, length};
 ghost use Rattle.ranges.specs.Fields.{within};
-ghost use Rattle.ranges.specs.Private.Bounds.{range_by, section_of};
-ghost use Rattle.ranges.specs.Private.Numbers.{ReadsEach, as_they_are, reads_wholes, reads_signed};
+ghost use Rattle.ranges.specs.Bounds.{range_by, section_of};
+ghost use Rattle.ranges.specs.Numbers.{ReadsEach, as_they_are, reads_wholes, reads_signed};
 
 use crate::{INCLINING_WIDTH, ITEM_WIDTH, PARTICULAR_COUNT, ROW_WIDTH, SHIFT_WIDTH, TANK_WIDTH};
 

@@ -1,4 +1,4 @@
-// The paper's limits, refusals and particulars: each number of the offset file against its range.
+// The paper's limits, refusals and particulars: each number of the paper against its range.
 #![tactic(auto)]
 
 mod bounds;
@@ -9,7 +9,7 @@ ghost use Rattle.std.specs.Prelude.{◌≡◌, length, map, pos};
 ghost use Rattle.ranges.specs.Fields.{particulars};
 ghost use Rattle.ranges.specs.Limits.{limits};
 ghost use Rattle.ranges.specs.Outside.{numbers_of, particulars_of, too_long, bad_particular};
-ghost use Rattle.ranges.specs.Private.Bounds.{place_in};
+ghost use Rattle.ranges.specs.Bounds.{place_in};
 ghost use Rattle.ranges.specs.Sides.{sides_of};
 ghost use Rattle.ranges.specs.Sizes.{whole_records, item_width, tank_width, most_items, most_tanks};
 
@@ -22,7 +22,7 @@ pub use tables::first_outside;
 
 // A hull's particulars: n intervals of length, m intervals of draft, s mm between stations, d mm between waterlines, and
 // the water's density in kg/m³.
-#[derive(Clone, Copy)]
+#[derive(Clone, Copy, Debug, PartialEq, Eq)]
 pub struct Particulars {
     pub n: usize,
     pub m: usize,
@@ -32,7 +32,7 @@ pub struct Particulars {
 }
 
 // A signed y in mm from the middle line as its two sides, one of which is 0.
-#[derive(Clone, Copy)]
+#[derive(Clone, Copy, Debug, PartialEq, Eq)]
 pub struct Sides {
     pub port: u64,
     pub starboard: u64,

@@ -1,7 +1,7 @@
 // Where the first number of a table stands that is out of its range.
 ghost use Rattle.std.specs.Prelude.{◌≡◌, length};
 ghost use Rattle.ranges.specs.Outside.{first_outside};
-ghost use Rattle.ranges.specs.Private.Bounds.{section_of, place_in};
+ghost use Rattle.ranges.specs.Bounds.{section_of, place_in};
 
 use crate::bounds::{Number, Record};
 

@@ -29,7 +29,7 @@ use Rattle.ranges.specs.Sizes.{row_width}
 use Rattle.report.specs.Lines.{field, fields, row_letter, condition_letter, line_of, row_line, word, mark, condition_line}
 use Rattle.report.specs.Private.Putting.{PutsFew, most_field, most_line}
 use Rattle.report.specs.Sheet.{row_lines}
-use Rattle.report.proofs.Pieces.{few_of, few_both}
+use Rattle.report.proofs.Pieces.{few_of, puts_both}
 
 pub fields_append : (a b : List ℤ) → fields (a ++ b) ≡ fields a ++ fields b
 unfolding fields
@@ -54,7 +54,7 @@ module _ {A : Type 0} (value : A → ℤ) (numbers : List A) (i : ℕ) {was now 
       let step : fields (map value (take (i + 1) numbers)) ≡ fields (map value (take i numbers)) ++ field (value x) =
       rw (take_step numbers i x h, ← is, map-append, fields_append, field_one) refl in
       let count : most_field * (i + 1) ≡ most_field * i + most_field = omega arith in
-      rw (step, count) (few_both p q)
+      rw (step, count) (puts_both p q)
 
   pub fields_all : i ≡ length numbers → PutsFew (most_field * i) (fields (map value (take i numbers))) was now → PutsFew (most_field * length numbers) (fields (map value numbers)) was now
   fields_all e p = rw (e, take-length) at p
@@ -62,7 +62,7 @@ module _ {A : Type 0} (value : A → ℤ) (numbers : List A) (i : ℕ) {was now 
 -- ---- whole lines
 -- a letter, the fields, and the line feed
 pub few_line : {most letter : ℕ} {said : List ℕ} {was start end is : Lines} → Puts (letter ∷ []) was start → PutsFew most said start end → Puts (line_feed ∷ []) end is → PutsFew (1 + most + 1) (line_of letter said) was is
-few_line {letter = letter} {said = said} p q e = rw (append_assoc (letter ∷ []) said (line_feed ∷ [])) at (few_both (few_both (few_of p) q) (few_of e))
+few_line {letter = letter} {said = said} p q e = rw (append_assoc (letter ∷ []) said (line_feed ∷ [])) at (puts_both (puts_both (few_of p) q) (few_of e))
 
 row_lines_from : (rows : List ℕ) (from count : ℕ) → row_lines rows from (suc count) ≡ row_lines rows from count ++ row_line (row_in rows (from + count))
 unfolding row_lines
@@ -109,7 +109,7 @@ module _ {rows rest : List ℕ} {k : ℕ} {was now : Lines} (so : RowsPut rows k
         record {
           rest_is = sym (drop_at front more row_width seven) ∙ ap (drop row_width) (sym e ∙ so.rest_is) ∙ rw (drop-drop, on) refl;
           inside = omega (arith, row_left);
-          put = rw (row_lines_more rows k, count) (few_both so.put (rw row_is at line));
+          put = rw (row_lines_more rows k, count) (puts_both so.put (rw row_is at line));
         }
 
   -- none is left

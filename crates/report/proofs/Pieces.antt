@@ -1,5 +1,5 @@
 -- Pieces of the sheet put one after another, each of so many bytes at most.
---     few_both, few_le             two pieces, one after the other; a piece is of more bytes at most, too
+--     puts_both, few_le             two pieces, one after the other; a piece is of more bytes at most, too
 --     room_le, room_next           room for more is room for less; room for two pieces is room for the second
 --     few_byte, few_of             a byte; a piece of known length
 --     few_field                    a space and a number
@@ -23,8 +23,8 @@ few_of p = record { few = omega arith; puts = p }
 pub few_le : {most : ℕ} {said : List ℕ} {was is : Lines} → PutsFew most said was is → (more : ℕ) → most ≤ more → PutsFew more said was is
 few_le p more h = record { few = omega (arith, p.few); puts = p.puts }
 
-pub few_both : {most more : ℕ} {said then : List ℕ} {was mid is : Lines} → PutsFew most said was mid → PutsFew more then mid is → PutsFew (most + more) (said ++ then) was is
-few_both {said} {then} p q = record { few = omega (arith, length-append said then, p.few, q.few); puts = puts_append p.puts q.puts }
+pub puts_both : {most more : ℕ} {said then : List ℕ} {was mid is : Lines} → PutsFew most said was mid → PutsFew more then mid is → PutsFew (most + more) (said ++ then) was is
+puts_both {said} {then} p q = record { few = omega (arith, length-append said then, p.few, q.few); puts = puts_append p.puts q.puts }
 
 pub room_le : {m n : ℕ} {l : Lines} → n ≤ m → HasRoom m l → HasRoom n l
 room_le h r = record { enough = omega (arith, r.enough) }

@@ -50,7 +50,7 @@ use Rattle.report.specs.Lines.{condition_line, refusal_line}
 use Rattle.report.specs.Promise.{report_by, Reports}
 use Rattle.report.specs.Private.Putting.{PutsFew, BeforeRefusal, longest_sheet, most_condition_line, most_line}
 use Rattle.report.specs.Sheet.{row_lines, condition_said, rows_said, file_said, sheet_by}
-use Rattle.report.proofs.Pieces.{few_both, few_le}
+use Rattle.report.proofs.Pieces.{puts_both, few_le}
 
 -- a refusal before any line
 none_before : {sheet : List ℕ} (r : Refusal) (l : Lines) → sheet ≡ refusal_line (number_of r.reason) r.place → BeforeRefusal sheet l l r
@@ -58,7 +58,7 @@ none_before r l e = record { lines = []; put = record { few = omega arith; puts 
 
 -- what stands before the E line, and that line
 pub with_refusal : {sheet : List ℕ} {was mid is : Lines} {r : Refusal} → BeforeRefusal sheet was mid r → PutsFew (most_line 2) (refusal_line (number_of r.reason) r.place) mid is → PutsFew longest_sheet sheet was is
-with_refusal so line = rw so.sheet_is (few_le (few_both so.put line) longest_sheet (omega arith))
+with_refusal so line = rw so.sheet_is (few_le (puts_both so.put line) longest_sheet (omega arith))
 
 -- ---- the condition
 module _ (reading : Reading) (rows : List ℕ) (items tanks : List ℤ) {was mid : Lines}
@@ -77,7 +77,7 @@ module _ (reading : Reading) (rows : List ℕ) (items tanks : List ℤ) {was mid
   pub load_laden : (c : Condition) {end : Lines} → answer ≡ Ok c → PutsFew most_condition_line (condition_line c) mid end → PutsFew longest_sheet (row_lines rows 0 (length rows / row_width) ++ condition_said (condition_by reading items tanks rows)) was end
   unfolding condition_said
   load_laden c e line =
-      rw (sym is ∙ ap paper e) (few_le (few_both lines line) longest_sheet (omega arith))
+      rw (sym is ∙ ap paper e) (few_le (puts_both lines line) longest_sheet (omega arith))
 
 -- ---- the rows
 -- so many whole rows stand in front of a table

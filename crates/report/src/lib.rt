@@ -47,7 +47,8 @@ pub fn make_report(text: &[u8], room: &mut [u8]) -> Result<usize, Refusal>
     make_report_by(Reading::DEFAULT, text, room)
 }
 
-// The sheet by lines of its own, which are copied where they fit: an array, since nothing is allocated.
+// The sheet by lines of its own, which are copied where they fit: an array, since nothing is allocated. Why this and the writer's are
+// two, `write_apart` says.
 fn make_apart(reading: Reading, text: &[u8], room: &mut [u8]) -> Result<usize, Refusal>
     ensures reports { Reports reading text.now room.old room.new result }
     ensures longest { length (sheet_by reading text.now) ≤ LONGEST_SHEET }

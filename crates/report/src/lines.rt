@@ -51,7 +51,7 @@ pub(crate) fn put_rows(to: &mut Lines<'_>, rows: &[u64])
     }
 }
 
-// The outcome's word.
+// The outcome's word. No `Display`, which needs a formatter and an error where the words are four constants.
 #[tactic(auto, unfolding(crate::specs::Lines::word))]
 fn word(heel: Heel) -> &'static [u8]
     ensures word { result.now ≡ word heel }

@@ -36,7 +36,8 @@ fn put_file(reading: Reading, text: &[u8], to: &mut Lines<'_>) -> Result<(), Ref
     requires { HasRoom longest_sheet to.old }
     ensures { PutsFile (sheet_by reading text.now) to.old to.new result }
 {
-    // Arrays and counts beside them, since nothing is allocated.
+    // Arrays and counts beside them, since nothing is allocated. Three products, and no methods of `Summary`, which would ask that its
+    // counts are the reader's.
     let mut half_breadths = [0u64; ranges::HALF_BREADTH_ROOM];
     let mut items = [0i64; ranges::ITEM_ROOM];
     let mut tanks = [0i64; ranges::TANK_ROOM];

@@ -13,7 +13,7 @@ pub const WHOLE_COUNT: usize = 8;
 
 pub const SIGNED_COUNT: usize = 2;
 
-// How the vessel lies, by number.
+// How the vessel lies, by number: a program in C reads numbers alone (include/rugulosca.h).
 fn lie(heel: Heel) -> u64
     ensures { result ≡ lie heel }
 {

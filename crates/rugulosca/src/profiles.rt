@@ -12,7 +12,7 @@ pub const WHOLE_COUNT: usize = 6;
 
 pub const SIGNED_COUNT: usize = 4;
 
-// 1 where a rule is met, and 0 where it is missed.
+// 1 where a rule is met, and 0 where it is missed: numbers, for C.
 fn met(rule: Rule) -> u64
     ensures { result ≡ met rule }
 {

@@ -1,4 +1,5 @@
-// The running tally. Its owner keeps five numbers a slot, three totals and the transverse moment, and lends them.
+// The running tally. Its owner keeps five numbers a slot, three totals and the transverse moment, and lends them one by one: each is a
+// pointer in C.
 ghost use Rattle.std.specs.Prelude.{◌≡◌, ◌≤◌, pos};
 ghost use Rattle.rugulosca.specs.Panel.{keeping, slots_from, tally_from, numbers_of, kept_of, item_from, place_from};
 ghost use Rattle.rugulosca.specs.Private.Places.{slot_in, slot_room};

@@ -7,6 +7,7 @@ ghost use Rattle.simpson.specs.Private.Places.{repeated_first, second_last};
 ghost use Rattle.simpson.specs.Curve.{curve_sum_of};
 
 // Constants, and no struct for each rule: each place below and in the crates above names the rule that it means, and none is handed a rule.
+
 // The first rule covers two intervals. Its multipliers, in 24ths of one: at its ends, between them, and where it meets itself.
 pub const FIRST_INTERVALS: usize = 2;
 
@@ -74,7 +75,8 @@ fn second_last(n: usize, i: usize) -> u64
     }
 }
 
-// The multiplier of station i over n intervals, in 24ths; 0 where there is no such station, or no rule for so few intervals.
+// The multiplier of station i over n intervals, in 24ths; 0 where there is no such station, or no rule for so few intervals. 0 and
+// no `Option`, as the definition says it, which the laws of every crate above cite.
 #[tactic(auto, using(arithmetic::proofs::Choice::told, crate::proofs::ByPlace::by_place), unfolding(crate::specs::Private::Places::placed))]
 pub fn multiplier(n: usize, i: usize) -> u64
     ensures { result ≡ Multipliers·multiplier n i }

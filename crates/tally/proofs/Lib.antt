@@ -3,6 +3,7 @@ pub mod InRange
 pub mod AnyOrder
 pub mod Slots
 pub mod Listings
+pub mod Held
 pub mod Soundness
 pub mod Stepping
 pub mod Lists

@@ -7,6 +7,7 @@
 --     handed_back, handed                                 what a call hands back of a tally: it keeps the promise of a step
 --     refused_as, done_as                                 as a step leaves it that was refused, and that was done
 --     handed_unique                                       and nothing else keeps it
+--     paper_stepped                                       what is handed back tells the outcome
 --     step_unique                                         a lent tally's promise determines the answer and the tally
 -- Assumes nothing.
 use mathlib.Core.Path.{◌≡◌, refl, sym, ap, ap₂, ◌∙◌}
@@ -28,7 +29,7 @@ use Rattle.ranges.specs.declared.refusal.Refusal.{Refusal}
 use Rattle.ranges.proofs.Outcomes.{refused_not, refusal_same}
 use Rattle.tally.specs.Private.Listing.{Fitting}
 use Rattle.tally.specs.Private.Trying.{Tried, unsound, beyond, nowhere, none}
-use Rattle.tally.specs.Steps.{moved_to, with_slot, loads, discharges, shifts, paper_of, HandsBack}
+use Rattle.tally.specs.Steps.{moved_to, with_slot, loads, discharges, shifts, paper_of, paper, HandsBack}
 use Rattle.tally.specs.Tally.{slot_count, no_item, freed, holding, slot_at, table_of, outside, sound}
 use Rattle.tally.specs.declared.Item.{Item}
 use Rattle.tally.specs.declared.Place.{Place}
@@ -165,3 +166,7 @@ handed_unique {s} {s'} one other =
 
 pub step_unique : {a b : Result (Unit {0}) Refusal} {t u was : Tally} {o : Outcome Tally} → HandsBack was o (record { answer = a; tally = t }) → HandsBack was o (record { answer = b; tally = u }) → (a ≡ b) × (t ≡ u)
 step_unique one other = let same = handed_unique one other in (ap (λ s. s.answer) same, ap (λ s. s.tally) same)
+
+-- what is handed back tells the outcome
+pub paper_stepped : {t : Tally} {o : Outcome Tally} {s : Stepped} → HandsBack t o s → paper s ≡ o
+paper_stepped h = h.answer_is

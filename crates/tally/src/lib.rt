@@ -3,7 +3,7 @@
 #![tactic(auto)]
 
 ghost use Rattle.std.specs.Prelude.{◌≡◌};
-ghost use Rattle.ranges.specs.Private.Bounds.{place_in};
+ghost use Rattle.ranges.specs.Bounds.{place_in};
 ghost use Rattle.ranges.specs.Reasons.{paper};
 ghost use Rattle.ranges.specs.Sizes.{item_width};
 ghost use Rattle.tally.specs.Condition.{condition_aboard};
@@ -33,7 +33,8 @@ pub struct Place {
     pub z: i64,
 }
 
-// A flag beside the item and not an `Option` of it: an empty slot that is lent with numbers in it keeps them, as the calls for C promise.
+// A slot. A flag beside the item and not an `Option` of it: an empty slot that is lent with numbers in it keeps them through a step, as
+// `kept_of` in the clauses of rugulosca_load, rugulosca_discharge and rugulosca_shift says.
 #[derive(Clone, Copy, Debug, PartialEq, Eq)]
 pub struct Slot {
     pub filled: bool,
@@ -43,6 +44,7 @@ pub struct Slot {
 // How many slots a tally has.
 pub const SLOTS: usize = 32;
 
+// The slots, and the totals of what is aboard.
 #[derive(Clone, Copy, Debug, PartialEq, Eq)]
 pub struct Tally {
     pub slots: [Slot; SLOTS],
@@ -147,7 +149,7 @@ pub fn shift(tally: &mut Tally, slot: usize, place: Place) -> Result<(), Refusal
     Ok(())
 }
 
-// The same steps by value: each lends its tally to the step of its name, and hands it back.
+// The same steps by value, since both forms are promised: each lends its tally to the step of its name, and hands it back.
 
 pub fn loaded(mut tally: Tally, slot: usize, item: Item) -> Stepped
     ensures { HandsBack tally (loads slot item tally) result }

@@ -17,6 +17,7 @@ pub(crate) fn items_aboard(slots: &[Slot; SLOTS]) -> Listed
     ensures { Lists slots.now result }
 {
     let mut numbers = [0i64; ranges::ITEM_ROOM];
+    // The place is counted by hand: only a filled slot takes one.
     let mut count = 0;
     for slot in slots {
         if !slot.filled {

@@ -9,7 +9,7 @@ pub(crate) struct Room {
     tanks: [i64; ranges::TANK_ROOM],
 }
 
-#[derive(Clone, Copy)]
+#[derive(Clone, Copy, PartialEq)]
 pub(crate) struct Barge<'a> {
     pub(crate) particulars: Particulars,
     pub(crate) half_breadths: &'a [u64],
@@ -62,18 +62,11 @@ impl Barge<'_> {
         };
         let mut room = Room::new();
         let again = text.get(..count).and_then(|text| room.read(text));
-        again.is_some_and(|barge| barge.is_same(self))
-    }
-
-    fn is_same(self, other: Barge) -> bool {
-        self.particulars.numbers() == other.particulars.numbers()
-            && self.half_breadths == other.half_breadths
-            && self.items == other.items
-            && self.tanks == other.tanks
+        again.is_some_and(|barge| barge == self)
     }
 }
 
-// How many half-breadths a hull has. The reader takes none that has more than there is room for.
+// How many half-breadths a hull has. The reader takes no count that is above its room: `min` says so here again.
 fn points_of(p: Particulars) -> usize {
     (p.n.min(ranges::HALF_BREADTH_ROOM) + 1) * (p.m.min(ranges::HALF_BREADTH_ROOM) + 1)
 }

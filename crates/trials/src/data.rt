@@ -8,7 +8,8 @@ use std::{fs, io};
 // No name is longer.
 const LONGEST_NAME: usize = 21;
 
-// Opens the file whose name is a number of three digits between a start and an ending.
+// Opens the file whose name is a number of three digits between a start and an ending. The name has room of its own: a String would
+// rest the program on C's allocator too.
 pub(crate) fn open<R: Files>(
     rt: &R,
     start: &str,

@@ -29,7 +29,8 @@ impl Call for Inclinings {
         given.line_end()?;
         let gms = gms.get_mut(..room)?;
         let made = inclining::light_ship(test, shifts, off, on, gms);
-        write_answer(answer, gms, shifts.len() / ranges::SHIFT_WIDTH, made).ok()
+        let count = gms.len().min(shifts.len() / ranges::SHIFT_WIDTH);
+        write_answer(answer, &gms[..count], made).ok()
     }
 }
 
@@ -45,26 +46,21 @@ fn test_of(given: &mut Text) -> Option<Test> {
     Some(test)
 }
 
-// The answer's lines, with so many GMs.
-fn write_answer(
-    answer: &mut Text,
-    gms: &[u64],
-    count: usize,
-    made: Result<LightShip, Refusal>,
-) -> fmt::Result {
+// The answer's lines.
+fn write_answer(answer: &mut Text, gms: &[u64], made: Result<LightShip, Refusal>) -> fmt::Result {
     match made {
         Ok(ship) => {
-            write_gms(answer, gms, count)?;
+            write_gms(answer, gms)?;
             write_ship(answer, ship)
         }
         Err(refusal) => calls::write_refusal(answer, refusal),
     }
 }
 
-// The line of GMs: G, and so many.
-fn write_gms(answer: &mut Text, gms: &[u64], count: usize) -> fmt::Result {
+// The line of GMs: G, and each.
+fn write_gms(answer: &mut Text, gms: &[u64]) -> fmt::Result {
     answer.write_str("G")?;
-    for gm in gms.iter().take(count) {
+    for gm in gms {
         write!(answer, " {gm}")?;
     }
     writeln!(answer)

@@ -1,4 +1,4 @@
-// Runs what is not proved by computing: outside files, their hulls by both engines, outside cases of the other calls, a worked example, and conditions at their limits. What it must print stands in stdout.
+// Runs what is not proved by computing: outside files, their hulls by both calculations, outside cases of the other calls, a worked example, and conditions at their limits. What it must print stands in stdout.
 #![tactic(auto)]
 
 mod barges;

@@ -63,7 +63,8 @@ impl<'a> Text<'a> {
     }
 }
 
-// To write to a text is to pass what is written; where something else stands there, that is an error.
+// To write to a text is to pass what is written; where something else stands there, that is an error. So an answer is compared as it
+// is printed.
 impl fmt::Write for Text<'_> {
     fn write_str(&mut self, s: &str) -> fmt::Result {
         self.piece(s.as_bytes()).ok_or(fmt::Error)
@@ -84,7 +85,8 @@ impl Number for i64 {
     }
 }
 
-// A whole number may have more digits than an offset file's; one that is too great is none.
+// A whole number may have more digits than an offset file's; one that is too great is none. Digit by digit, since `parse` takes
+// greater ones.
 impl Number for u64 {
     fn read(text: &mut Text) -> Option<u64> {
         let mut value = 0;

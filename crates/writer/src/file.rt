@@ -32,6 +32,7 @@ impl<'a> File<'a> {
         ensures file { IfOk result (IsOf p half_breadths.now items.now tanks.now) }
         ensures refused { IfErr result (RefusedAs p half_breadths.now items.now tanks.now) }
     {
+        // Loading and hydrostatics make some of these tests too, in orders of their own: each is two names and a place.
         if let Some(place) = ranges::bad_particular(p) {
             return Err(Reason::OutOfRange.at(place));
         }
@@ -73,7 +74,8 @@ impl<'a> File<'a> {
     }
 
     // The same by a text of its own, which is copied where it fits: an array, since nothing is allocated. The sheet's call does
-    // so too; one function for both would take how the text is put as a closure, and be no plainer.
+    // so too; one function for both would need the array's length, a closure that puts the text and what it promises in a clause of its
+    // own, for a test and a copy.
     fn write_apart(&self, room: &mut [u8]) -> Result<usize, Refusal>
         ensures { WritesFile self.now room.old room.new result }
     {

@@ -1,4 +1,4 @@
-// The writer. The text is put together in a local array that holds any text, and copied into the lent room where it fits.
+// The writer. Room that holds any text takes it as it is made; for less, it is put together in an array first, and copied where it fits.
 #![tactic(auto)]
 
 mod file;

@@ -8,7 +8,7 @@ use lib.ListN.{length, length-map}
 use Rattle.ranges.specs.Fields.{particulars}
 use Rattle.ranges.specs.Limits.{limits}
 use Rattle.ranges.specs.Outside.{first_outside, numbers_of}
-use Rattle.ranges.specs.Private.Bounds.{place_in}
+use Rattle.ranges.specs.Bounds.{place_in}
 use Rattle.ranges.specs.declared.Particulars.{Particulars}
 use Rattle.ranges.proofs.Hulls.{bad_outside, bad_length, bad_none}
 use Rattle.ranges.proofs.Outside.{place_some, place_none, some_place, none_place}

@@ -2,7 +2,7 @@
 use mathlib.Core.Path.{◌≡◌}
 use lib.ListN.{drop}
 use Rattle.ranges.specs.Outside.{outside_from, first_outside}
-use Rattle.ranges.specs.Private.Bounds.{section_of}
+use Rattle.ranges.specs.Bounds.{section_of}
 use Rattle.ranges.proofs.tables.first_outside.Given as goal
 
 abbrev pub invariant-loop-i : goal.invariant-loop-i

@@ -1,6 +1,6 @@
 -- Each number is read back from its bits. Assumes nothing.
 use mathlib.Core.Path.{ap, ◌∙◌}
-use Rattle.ranges.specs.Private.Bounds.{place_in}
+use Rattle.ranges.specs.Bounds.{place_in}
 use Rattle.ranges.specs.Sizes.{item_width}
 use Rattle.tally.specs.Tally.{table_of, outside}
 use Rattle.tally.proofs.Listings.{held_told, back_item_same}

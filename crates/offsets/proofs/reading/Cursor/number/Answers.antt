@@ -5,7 +5,7 @@ use mir.Syntax.{w64}
 use mir.Val.{SFits}
 use Rattle.arithmetic.proofs.Crossing.{back_is, heard}
 use Rattle.ranges.specs.Fields.{within}
-use Rattle.ranges.specs.Private.Bounds.{range_by}
+use Rattle.ranges.specs.Bounds.{range_by}
 use Rattle.offsets.proofs.Taking.{one_end, one_none, one_in, one_out}
 use Rattle.offsets.proofs.reading.Cursor.number.Goals as goal
 

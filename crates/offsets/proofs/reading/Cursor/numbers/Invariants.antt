@@ -1,7 +1,7 @@
 -- What is read and what is still to be read are the whole run. Assumes nothing.
 use mathlib.Core.Path.{◌≡◌}
 use lib.ListN.{length}
-use Rattle.ranges.specs.Private.Bounds.{section_of}
+use Rattle.ranges.specs.Bounds.{section_of}
 use Rattle.offsets.proofs.Runs.{Run}
 use Rattle.offsets.proofs.reading.Cursor.numbers.Given as goal
 

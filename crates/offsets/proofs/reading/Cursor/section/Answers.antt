@@ -9,7 +9,7 @@ use lib.Seq.{length-take-le, take_at}
 use Rattle.ranges.specs.Outcome.{answered}
 use Rattle.offsets.specs.Private.Steps.{tokens_at, front}
 use Rattle.std.proofs.lemmas.Result.{err_from_is_err_and}
-use Rattle.ranges.specs.Private.Bounds.{range_by, section_of}
+use Rattle.ranges.specs.Bounds.{range_by, section_of}
 use Rattle.offsets.proofs.Chain.{section_stops, section_goes_on}
 use Rattle.offsets.proofs.reading.Cursor.section.Goals as goal
 use Rattle.offsets.proofs.reading.Cursor.section.Goals.{After-numbers}

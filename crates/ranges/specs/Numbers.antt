@@ -1,6 +1,5 @@
--- The numbers of a table by their values, whole ones and those of either sign.
-use Rattle.std.specs.Prelude.{ℤ, List, ◌≡◌, map, pos}
-use Rattle.std.specs.Prelude.{refl}
+-- The numbers of a table by their values, whole ones and those of either sign; with the law of each that a trait's `impl` shows, which stands in specs/ by the kit's rule.
+use Rattle.std.specs.Prelude.{ℤ, List, ◌≡◌, map, pos, refl}
 use Rattle.std.proofs.Common.{sym}
 use Rattle.std.proofs.lemmas.List.{map-id}
 
