@@ -48,7 +48,8 @@ pub struct Figures {
     pub area: f64,
 }
 
-// How many numbers a row has, how many rows the largest hull has, and the room for all of them.
+// How many numbers a row has, how many rows the largest hull has, and the room for all of them: the names for those who call this
+// crate, of what ranges states.
 pub const ROW_WIDTH: usize = ranges::ROW_WIDTH;
 
 pub const MOST_ROWS: usize = ranges::MOST_ROWS;

@@ -7,7 +7,7 @@ ghost use Rattle.hydrostatics.specs.Private.Sums.{TriedSums};
 
 use crate::MOST_ROWS;
 use crate::hull::{Hull, HullUpTo};
-use crate::table::{FIRST_WATERLINE, NO_SUMS, Sums};
+use crate::table::{FIRST_WATERLINE, Sums};
 use ranges::{MOST_STATIONS, Record};
 use simpson::{
     FIRST_BETWEEN, FIRST_END, FIRST_INTERVALS, SECOND_BETWEEN, SECOND_END, SECOND_INTERVALS,
@@ -156,7 +156,7 @@ pub(crate) fn hull_sums(hull: Hull) -> Option<[Sums; MOST_ROWS]>
     if ranges::first_outside(half_breadths, Record::HalfBreadth).is_some() {
         return None;
     }
-    let mut sums = [NO_SUMS; MOST_ROWS];
+    let mut sums = [Sums::default(); MOST_ROWS];
     for r in 0..particulars.m - 1 {
         let part = HullUpTo {
             half_breadths,

@@ -11,7 +11,7 @@ use crate::{ROW_WIDTH, Row};
 use ranges::{HIGHEST_METACENTRE, Particulars, Reason, Refusal};
 
 // The five sums that the row of a waterline is made of: S, Sz and Sx over its waterlines, Q and C of its own.
-#[derive(Clone, Copy)]
+#[derive(Clone, Copy, Default)]
 pub(crate) struct Sums {
     pub sum: u64,
     pub sz: u64,
@@ -22,15 +22,6 @@ pub(crate) struct Sums {
 
 // Row r belongs to waterline r + 2.
 pub(crate) const FIRST_WATERLINE: usize = 2;
-
-// What stands where no sums are made yet: without a heap there is room for the most rows that a hull may have.
-pub(crate) const NO_SUMS: Sums = Sums {
-    sum: 0,
-    sz: 0,
-    sx: 0,
-    q: 0,
-    c: 0,
-};
 
 // Both sides of a hull hold 2·s·d·S/24² mm³, and a cubic metre is 10⁹ mm³: s·d·S·density is so many times the displacement.
 const VOLUME_UNITS: u64 = 288_000_000_000;

@@ -11,19 +11,16 @@ ghost use Rattle.hydrostatics.specs.Private.Waterplanes.{StationMultipliers, Gat
 
 use crate::MOST_ROWS;
 use crate::hull::Hull;
-use crate::table::{FIRST_WATERLINE, NO_SUMS, Sums};
+use crate::table::{FIRST_WATERLINE, Sums};
 use ranges::{MOST_STATIONS, MOST_WATERLINES, Number, Particulars};
 
 // What one waterline contributes: the sums of u·y, of u·y times the station's number, and of u·y³.
-#[derive(Clone, Copy)]
+#[derive(Clone, Copy, Default)]
 struct Waterline {
     pub q: u64,
     pub x: u64,
     pub c: u64,
 }
-
-// What stands where no waterline is swept yet.
-const NO_WATERLINE: Waterline = Waterline { q: 0, x: 0, c: 0 };
 
 // The multipliers of the stations over n intervals.
 fn station_multipliers(n: usize) -> [u64; MOST_STATIONS]
@@ -95,12 +92,12 @@ fn row_sums(lines: &[Waterline]) -> Sums
     }
 }
 
-// The five sums of every row up to the last of these waterlines.
+// The five sums of every row up to the last of these waterlines, with room for the most rows that there may be: there is no heap.
 fn sums_of_rows(lines: &[Waterline]) -> [Sums; MOST_ROWS]
     requires { (Small lines.now) × (waterline_of 0 < length lines.now) }
     ensures { Filled no_sums (λ row. sums_from (up_to (waterline_of row) lines.now)) (length lines.now - waterline_of 0) result }
 {
-    let mut sums = [NO_SUMS; MOST_ROWS];
+    let mut sums = [Sums::default(); MOST_ROWS];
     for r in 0..lines.len() - FIRST_WATERLINE {
         sums[r] = row_sums(&lines[..r + FIRST_WATERLINE + 1]);
     }
@@ -114,7 +111,7 @@ pub(crate) fn hull_sums(hull: Hull) -> Option<[Sums; MOST_ROWS]>
     let Particulars { n, m, .. } = hull.particulars;
     let multipliers = station_multipliers(n);
     let stations = &multipliers[..n + 1];
-    let mut lines = [NO_WATERLINE; MOST_WATERLINES];
+    let mut lines = [Waterline::default(); MOST_WATERLINES];
     for j in 0..m + 1 {
         lines[j] = hull.waterline_sums(stations, j)?;
     }

@@ -7,6 +7,9 @@ ghost use Rattle.std.specs.Io.KnownBytes.{Consumes, IsAtEnd};
 use std::io;
 use std::io::Read;
 
+// One byte more than a file may have. A longer text has the same sheet, whatever follows (report, proofs/Cut).
+pub const LONGEST_INPUT: usize = ranges::LONGEST_FILE + 1;
+
 // Reads until the room is full or the input ends, and answers how many bytes it put at the start of the room.
 // A `while`: how far each step goes is what the read before it gave. std's `read_to_end` reads on past the room, and its
 // `read_exact` has no answer for an input that is shorter.

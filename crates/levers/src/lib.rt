@@ -65,7 +65,8 @@ fn outside_of(kn: &[u64; ANGLES], km: u64, kg: u64) -> Option<usize>
     Some(ANGLES + place)
 }
 
-// What is taken off KN at each angle: KG times the sine, rounded up.
+// What is taken off KN at each angle: KG times the sine, rounded up. No `map`, whose closure would need a clause of its own, that no
+// sine is above a million.
 fn products_of(kg: u64) -> [u64; ANGLES]
     requires { kg ≤ most metacentre }
     ensures { result ≡ products kg }

@@ -111,8 +111,7 @@ unfolding tanks_from
 trial_end place = refl
 
 -- ---- the walk over the items: what is left of them is whole items, in range
-pub record AtItem (items rest : List ℤ) (size : ℕ) (all : Aboard) : Type 0 where
-  pub by : size ≡ item_width
+pub record AtItem (items rest : List ℤ) (all : Aboard) : Type 0 where
   pub whole : length rest % item_width ≡ 0
   pub inside : length rest ≤ first_outside item rest
   pub walked : ℕ
@@ -125,16 +124,13 @@ none_left : items_of [] ≡ []
 unfolding items_of
 none_left = refl
 
-pub at_first_item : (items : List ℤ) → ItemsFit items → AtItem items items item_width nothing
+pub at_first_item : (items : List ℤ) → ItemsFit items → AtItem items items nothing
 at_first_item items fit =
-    record { by = refl; whole = fit.whole; inside = omega (arith, fit.is_in_range); walked = 0; walk = walk_start of_item items_of item_width (most (range_of 6)) 0 items }
+    record { whole = fit.whole; inside = omega (arith, fit.is_in_range); walked = 0; walk = walk_start of_item items_of item_width (most (range_of 6)) 0 items }
 
-module _ {items rest : List ℤ} {size : ℕ} {all : Aboard} (a : AtItem items rest size all) where
+module _ {items rest : List ℤ} {all : Aboard} (a : AtItem items rest all) where
   -- the next item
-  module _ (numbers further : List ℤ) (next : rest ≡ numbers ++ further) (whole : length numbers ≡ size) where
-    pub four : length numbers ≡ item_width
-    four = whole ∙ a.by
-
+  module _ (numbers further : List ℤ) (next : rest ≡ numbers ++ further) (four : length numbers ≡ item_width) where
     parts : (first_outside item numbers ≡ length numbers) × (first_outside item further ≡ length further)
     parts =
         parts_inside item numbers further four (rw next at a.inside)
@@ -142,11 +138,10 @@ module _ {items rest : List ℤ} {size : ℕ} {all : Aboard} (a : AtItem items r
     pub next_stowed : StowedItem (item_at numbers 0)
     next_stowed = item_stowed numbers four (omega (arith, parts.0))
 
-    pub past_item : {more : Aboard} → more ≡ all with of_item (item_at numbers 0) → AtItem items further size more
+    pub past_item : {more : Aboard} → more ≡ all with of_item (item_at numbers 0) → AtItem items further more
     past_item e =
         let long = ap length next ∙ length-append numbers further in
         record {
-          by = a.by;
           whole = omega (arith, a.whole, long, four);
           inside = omega (arith, parts.1);
           walked = a.walked + 1;
@@ -157,16 +152,15 @@ module _ {items rest : List ℤ} {size : ℕ} {all : Aboard} (a : AtItem items r
   pub few_items : ItemsFit items → Bearable all
   few_items fit = reach_less a.walk.reach (omega (arith, a.walk.at, fit.few)) (omega arith)
 
-  pub past_all : length rest < size → ItemsFit items → Brought most_in_items 0 (altogether of_item (items_of items)) all
+  pub past_all : length rest < item_width → ItemsFit items → Brought most_in_items 0 (altogether of_item (items_of items)) all
   past_all h fit =
       record {
-        is = walk_end of_item items_of item_width (most (range_of 6)) 0 items a.walk (nothing_left (omega (arith, a.by, a.whole))) none_left;
+        is = walk_end of_item items_of item_width (most (range_of 6)) 0 items a.walk (nothing_left (omega (arith, a.whole))) none_left;
         reach = reach_less a.walk.reach (omega (arith, a.walk.at, fit.few)) (omega arith);
       }
 
 -- ---- the walk over the tanks: what is left of them is whole tanks, and those before have passed
-pub record AtTank (tanks rest : List ℤ) (size walked : ℕ) (all : Aboard) : Type 0 where
-  pub by : size ≡ tank_width
+pub record AtTank (tanks rest : List ℤ) (walked : ℕ) (all : Aboard) : Type 0 where
   pub whole : length rest % tank_width ≡ 0
   pub passed : tanks_from 0 tanks ≡ tanks_from (tank_width * walked) rest
   pub walk : Walked of_tank tanks_of tank_width (most (range_of 10)) most_surface tanks rest walked all
@@ -175,16 +169,13 @@ no_tank_left : tanks_of [] ≡ []
 unfolding tanks_of
 no_tank_left = refl
 
-pub at_first_tank : (tanks : List ℤ) → TanksWhole tanks → AtTank tanks tanks tank_width 0 nothing
+pub at_first_tank : (tanks : List ℤ) → TanksWhole tanks → AtTank tanks tanks 0 nothing
 at_first_tank tanks fit =
-    record { by = refl; whole = fit.whole; passed = refl; walk = walk_start of_tank tanks_of tank_width (most (range_of 10)) most_surface tanks }
+    record { whole = fit.whole; passed = refl; walk = walk_start of_tank tanks_of tank_width (most (range_of 10)) most_surface tanks }
 
-module _ {tanks rest : List ℤ} {size walked : ℕ} {all : Aboard} (a : AtTank tanks rest size walked all) where
+module _ {tanks rest : List ℤ} {walked : ℕ} {all : Aboard} (a : AtTank tanks rest walked all) where
   -- the next tank
-  module _ (numbers further : List ℤ) (next : rest ≡ numbers ++ further) (whole : length numbers ≡ size) where
-    pub eight : length numbers ≡ tank_width
-    eight = whole ∙ a.by
-
+  module _ (numbers further : List ℤ) (next : rest ≡ numbers ++ further) (eight : length numbers ≡ tank_width) where
     long : length rest ≡ length numbers + length further
     long = ap length next ∙ length-append numbers further
 
@@ -204,11 +195,10 @@ module _ {tanks rest : List ℤ} {size walked : ℕ} {all : Aboard} (a : AtTank 
       pub next_reach : Reach (most (range_of 10)) most_surface (of_tank (tank_at numbers 0))
       next_reach = reach_less (reach_weight next_fits.stowed _) (omega arith) (surface_most (tank_at numbers 0) next_fits.room)
 
-      pub past_tank : {more : Aboard} → size_at numbers 0 ≤ size_at numbers 1 → more ≡ all with of_tank (tank_at numbers 0) → AtTank tanks further size (walked + 1) more
+      pub past_tank : {more : Aboard} → size_at numbers 0 ≤ size_at numbers 1 → more ≡ all with of_tank (tank_at numbers 0) → AtTank tanks further (walked + 1) more
       past_tank h e =
           let on : tank_width * walked + tank_width ≡ tank_width * (walked + 1) = omega arith in
           record {
-            by = a.by;
             whole = omega (arith, a.whole, long, eight);
             passed = a.passed ∙ ap (tanks_from (tank_width * walked)) next ∙ tank_passed numbers eight (tank_width * walked) further inside h ∙ ap (λ place. tanks_from place further) on;
             walk = walk_step of_tank tanks_of tank_width (most (range_of 10)) most_surface tanks numbers further (tank_at numbers 0) a.walk next eight (tanks_next numbers further eight) next_reach e;
@@ -217,9 +207,9 @@ module _ {tanks rest : List ℤ} {size walked : ℕ} {all : Aboard} (a : AtTank 
   pub tanks_bearable : TanksWhole tanks → Bearable all
   tanks_bearable fit = reach_less a.walk.reach (omega (arith, a.walk.at, fit.few)) (omega (arith, a.walk.at, fit.few))
 
-  pub past_all_tanks : length rest < size → TanksWhole tanks → TanksTried tanks (Ok all)
+  pub past_all_tanks : length rest < tank_width → TanksWhole tanks → TanksTried tanks (Ok all)
   past_all_tanks h fit =
-      let past : rest ≡ [] = nothing_left (omega (arith, a.by, a.whole)) in
+      let past : rest ≡ [] = nothing_left (omega (arith, a.whole)) in
       trial_passed tanks (a.passed ∙ ap (tanks_from (tank_width * walked)) past ∙ trial_end (tank_width * walked))
       (walk_end of_tank tanks_of tank_width (most (range_of 10)) most_surface tanks a.walk past no_tank_left)
       (reach_less a.walk.reach (omega (arith, a.walk.at, fit.few)) (omega (arith, a.walk.at, fit.few)))

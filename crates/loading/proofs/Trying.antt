@@ -1,4 +1,5 @@
 -- The tests of a row, and of a table row by row.
+--     before_none, before_some                     the row before it
 --     unusable_range, usable_is, heights_most      the row
 --     rows_none, rows_on, rows_bad                 the table
 --     lent_whole, lent_wrong, lent_bad, lent_good  the lent table, as it is tried,
@@ -15,7 +16,7 @@ use borrow.Author.Tests.{eq-eqb, ne_eqb, ltb-true, ltb-false, leb-true}
 use lib.Dec.{leb, ltb, eqb}
 use lib.IntN.{pos}
 use lib.ListN.{length}
-use Rattle.std.specs.Prelude.{Option, is_some}
+use Rattle.std.specs.Prelude.{Option, Some, None, is_some}
 use Rattle.arithmetic.proofs.Choice.{chosen}
 use Rattle.arithmetic.proofs.Tests.{by_test, both, never}
 use Rattle.hydrostatics.specs.Row.{numbers_of}
@@ -32,15 +33,22 @@ use Rattle.ranges.specs.Sizes.{whole_records, row_width, least_rows, most_rows}
 use Rattle.hydrostatics.proofs.InRows.{row_in_range}
 use Rattle.ranges.proofs.Facts.{records_are}
 use Rattle.loading.specs.Condition.{rows_allowed}
-use Rattle.loading.specs.Private.Afloat.{count_of, spaced_from, rises_from, fits_metacentre, rows_tried, is_answered, RowsWhole, RowsUsable}
+use Rattle.loading.specs.Private.Afloat.{count_of, spaced_from, row_before, rises_after, fits_metacentre, rows_tried, is_answered, RowsWhole, RowsUsable}
 use Rattle.loading.proofs.Usability.{usable_count}
 use Rattle.hydrostatics.proofs.Reading.{seven_are}
 
-rises_is : (rows : List ℕ) (r : ℕ) → rises rows r ≡ rises_from (row_in rows (r - 1)) (row_in rows r) r
+rises_is : (rows : List ℕ) (r : ℕ) → rises rows r ≡ rises_after (row_before rows r) (row_in rows r)
 unfolding rises
 rises_is rows zero = refl
-rises_is rows (suc r) =
-    let m : suc r - 1 ≡ r = omega arith in rw (m, ne_eqb (suc r) 0 (λ e. omega arith))
+rises_is rows (suc r) = refl
+
+pub before_none : (rows : List ℕ) (r : ℕ) → r ≡ 0 → row_before rows r ≡ None
+before_none rows r e = ap (row_before rows) e
+
+pub before_some : (rows : List ℕ) (r : ℕ) → 0 < r → row_before rows r ≡ Some (row_in rows (r - 1))
+before_some rows zero h = absurd (omega arith)
+before_some rows (suc r) h =
+    let m : r ≡ suc r - 1 = omega arith in ap (λ i. Some (row_in rows i)) m
 
 -- ---- the row
 module _ (rows : List ℕ) (r : ℕ) (whole : row_width * r + row_width ≤ length rows) {row : Row} (here : row ≡ row_in rows r) where
@@ -71,7 +79,7 @@ module _ (rows : List ℕ) (r : ℕ) (whole : row_width * r + row_width ≤ leng
       ranged : in_range rows r ≡ true
       ranged = range_is ∙ eq-eqb outside row_width all_inside
 
-      pub usable_is : {first before : Row} → first ≡ row_in rows 0 → before ≡ row_in rows (r - 1) → usable_row rows r ≡ (spaced_from first row r && rises_from before row r && fits_metacentre row)
+      pub usable_is : {first : Row} {before : Option Row} → first ≡ row_in rows 0 → before ≡ row_before rows r → usable_row rows r ≡ (spaced_from first row r && rises_after before row && fits_metacentre row)
       unfolding usable_row spaced metacentre_fits
       usable_is e f = rw (ranged, rises_is rows r, e, f, here)
 

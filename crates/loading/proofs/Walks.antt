@@ -1,4 +1,5 @@
 -- Tables walked record by record: the numbers of one, and what is left of the table.
+--     record_next                     a record of a table, as one of its arrays, is the front of what is left
 --     drop_four, drop_eight           the next numbers of a table
 --     items_next, tanks_next          the next item, the next tank
 --     Walked                          the walk's invariant,
@@ -6,17 +7,41 @@
 -- Assumes nothing.
 use mathlib.Core.Path.{◌≡◌, refl, sym, ap, ◌∙◌}
 use mathlib.Core.List.{List, [], ◌∷◌, ◌++◌}
-use Prim.Native.Nat.{ℕ, ◌+◌, ◌*◌, ◌<◌, ◌≤◌}
-use native.Mathlib.Nat.{add_assoc, add-zero, zero-add, mul-add, mul-one}
+use Prim.Native.Nat.{ℕ, zero, suc, ◌+◌, ◌*◌, ◌/◌, ◌<◌, ◌≤◌}
+use native.Mathlib.Nat.{add_assoc, add-zero, zero-add, mul-add, mul-one, mul-suc}
 use native.Mathlib.Omega.{arith}
 use lib.IntN.{ℤ, pos}
-use lib.ListN.{length, drop, get_or, drop_of_length-le, length-append}
+use lib.ListN.{length, take, drop, get_or, drop_of_length-le, length-append, length-drop, take-append-drop}
+use lib.Seq.{drop-drop, length-take-le}
+use Rattle.std.specs.Simd.{first_chunks}
 use Rattle.ranges.specs.Sizes.{item_width, tank_width}
 use Rattle.arithmetic.proofs.Parts.{drop_step}
 use Rattle.loading.specs.Private.Aboard.{nothing, ◌with◌, altogether, item_at, tank_at, Reach}
 use Rattle.loading.specs.Records.{items_of, tanks_of}
 use Rattle.loading.specs.declared.Aboard.{Aboard}
 use Rattle.loading.proofs.Reaches.{reach_with}
+
+module _ {A : Type 0} (width : ℕ) where
+  record_front : (s : List A) (i count : ℕ) → i < count → get_or (first_chunks width count s) i [] ≡ take width (drop (width * i) s)
+  record_front s i zero h = absurd (omega arith)
+  record_front s zero (suc count) h =
+      let none : 0 ≡ width * 0 = omega arith in ap (λ i. take width (drop i s)) none
+  record_front s (suc i) (suc count) h =
+      let on : width + width * i ≡ width * suc i = omega (arith, mul-suc width i) in
+      record_front (drop width s) i count (omega arith)
+      ∙ ap (take width) (drop-drop (width * i) width s ∙ ap (λ i. drop i s) on)
+
+  pub record_next :
+      (s : List A) {records : List (List A)} → records ≡ first_chunks width (length s / width) s
+      → (i : ℕ) → i < length s / width → width * (i + 1) ≤ length s
+      → (drop (width * i) s ≡ get_or records i [] ++ drop (width * (i + 1)) s) × (length (get_or records i []) ≡ width)
+  record_next s {records} e i h k =
+      let on : width * i + width ≡ width * (i + 1) = omega (arith, mul-add width i 1, mul-one width) in
+      let front : get_or records i [] ≡ take width (drop (width * i) s) = rw e (record_front s i (length s / width) h) in
+      let left : width ≤ length (drop (width * i) s) = omega (arith, length-drop (width * i) s) in (
+        rw front (sym (take-append-drop width (drop (width * i) s)) ∙ ap (λ rest. take width (drop (width * i) s) ++ rest) (drop-drop width (width * i) s ∙ ap (λ i. drop i s) on)),
+        ap length front ∙ length-take-le width (drop (width * i) s) left,
+      )
 
 module _ {A : Type 0} (s : List A) (d : A) where
   -- place j is the one after place i

@@ -7,7 +7,7 @@ ghost use Rattle.ranges.specs.Sizes.{room_for_items};
 
 use crate::Aboard;
 use crate::weights::Weight;
-use ranges::{Reason, Record, Refusal};
+use ranges::{ITEM_WIDTH, Reason, Record, Refusal};
 
 // Each number of a table of items against its range.
 pub(crate) fn try_ranges(items: &[i64]) -> Result<(), Refusal>
@@ -25,8 +25,9 @@ pub(crate) fn items_aboard(items: &[i64]) -> Aboard
     requires { ItemsFit items.now }
     ensures { Brought most_in_items 0 (altogether of_item (items_of items.now)) result }
 {
+    let (records, _) = items.as_chunks::<ITEM_WIDTH>();
     let mut all = Aboard::default();
-    for numbers in items.chunks_exact(ranges::ITEM_WIDTH) {
+    for numbers in records {
         all = all + Weight::of_item(numbers).aboard(0);
     }
     all

@@ -1,5 +1,5 @@
 // What the tanks bring aboard, each with its free surface, or the refusal of the first that is not allowed.
-ghost use Rattle.std.specs.Prelude.{◌≡◌, ◌*◌, ◌^◌, ◌≤◌, length};
+ghost use Rattle.std.specs.Prelude.{◌≡◌, ◌*◌, ◌^◌, ◌≤◌};
 ghost use Rattle.arithmetic.specs.Rounding.{rounded_up};
 ghost use Rattle.loading.specs.Private.Aboard.{RoomOf, TanksWhole, TanksTried};
 ghost use Rattle.loading.specs.Paper.{rectangle};
@@ -35,19 +35,19 @@ impl Tank {
     ghost use Rattle.loading.specs.Private.Filled.{tank_of};
     ghost use Rattle.loading.specs.Paper.{slack};
     ghost use Rattle.loading.specs.Rules.{surface_of};
-    ghost use Rattle.ranges.specs.Sizes.{tank_width};
 
-    // The tank of eight numbers. No `From`, since it asks that they are in their ranges.
-    fn of(numbers: &[i64]) -> Tank
-        requires { (length numbers.now ≡ tank_width) × TankFits (tank_at numbers.now 0) }
+    // The tank of a record. No `From`, since it asks that the numbers are in their ranges.
+    fn of(numbers: &[i64; TANK_WIDTH]) -> Tank
+        requires { TankFits (tank_at numbers.now 0) }
         ensures { tank_of result ≡ tank_at numbers.now 0 }
     {
+        let [contents, capacity, x, y, z, length, breadth, density] = *numbers;
         Tank {
-            contents: Weight::at(numbers[0], &numbers[2..5]),
-            capacity: arithmetic::magnitude(numbers[1]),
-            length: arithmetic::magnitude(numbers[5]),
-            breadth: arithmetic::magnitude(numbers[6]),
-            density: arithmetic::magnitude(numbers[7]),
+            contents: Weight::at(contents, x, y, z),
+            capacity: arithmetic::magnitude(capacity),
+            length: arithmetic::magnitude(length),
+            breadth: arithmetic::magnitude(breadth),
+            density: arithmetic::magnitude(density),
         }
     }
 
@@ -88,8 +88,9 @@ pub(crate) fn tanks_aboard(tanks: &[i64]) -> Result<Aboard, Refusal>
     requires { TanksWhole tanks.now }
     ensures { TanksTried tanks.now result }
 {
+    let (records, _) = tanks.as_chunks::<TANK_WIDTH>();
     let mut all = Aboard::default();
-    for (i, numbers) in tanks.chunks_exact(TANK_WIDTH).enumerate() {
+    for (i, numbers) in records.iter().enumerate() {
         let at = Refusal::TANKS_AT + TANK_WIDTH * i;
         if let Some(place) = ranges::first_outside(numbers, Record::Tank) {
             return Err(Reason::OutOfRange.at(at + place));

@@ -1,7 +1,7 @@
 // Whether a lent table of rows is usable, row by row.
 ghost use Rattle.std.specs.Prelude.{◌≡◌, ◌+◌, ◌*◌, ◌<◌, ◌≤◌, length, true};
 ghost use Rattle.hydrostatics.specs.Usable.{usable_row, usable_up_to};
-ghost use Rattle.loading.specs.Private.Afloat.{spaced_from, rises_from, fits_metacentre, usable_but_for, count_of};
+ghost use Rattle.loading.specs.Private.Afloat.{spaced_from, row_before, rises_after, fits_metacentre, usable_but_for, count_of};
 ghost use Rattle.loading.specs.Condition.{rows_allowed};
 ghost use Rattle.ranges.specs.Fields.{most};
 ghost use Rattle.ranges.specs.Private.InRange.{row_range};
@@ -30,11 +30,25 @@ fn metacentre_fits(row: Row) -> bool
     row.kb + row.bm == row.km || row.kb + row.bm + 1 == row.km
 }
 
-// Row r displaces more than the row before it; row 0 has none.
-fn is_rising(before: Row, row: Row, r: usize) -> bool
-    ensures { result ≡ rises_from before row r }
+// The row before row r, which row 0 has not.
+fn row_before(numbers: &[u64], r: usize) -> Option<Row>
+    requires { row_width * r ≤ length numbers.now }
+    ensures { result ≡ row_before numbers.now r }
 {
-    r == 0 || before.displacement < row.displacement
+    if r == 0 {
+        return None;
+    }
+    Some(rows::row_in(numbers, r - 1))
+}
+
+// A row displaces more than the row before it, if there is one.
+fn is_rising(before: Option<Row>, row: Row) -> bool
+    ensures { result ≡ rises_after before row }
+{
+    match before {
+        Some(before) => before.displacement < row.displacement,
+        None => true,
+    }
 }
 
 // Whether row r of a table is usable.
@@ -47,8 +61,8 @@ fn is_usable(numbers: &[u64], r: usize) -> bool
         return false;
     }
     let first = rows::row_in(numbers, 0);
-    let before = rows::row_in(numbers, r.saturating_sub(1));
-    is_spaced(first, row, r) && is_rising(before, row, r) && metacentre_fits(row)
+    let before = row_before(numbers, r);
+    is_spaced(first, row, r) && is_rising(before, row) && metacentre_fits(row)
 }
 
 // The first row that is not usable.

@@ -1,10 +1,10 @@
 // A weight where it stands, what it brings aboard, and what two bring together.
-ghost use Rattle.std.specs.Prelude.{◌≡◌, ◌+◌, nat_abs, length};
-ghost use Rattle.loading.specs.Private.Aboard.{Stowed, Bearable, number_at, size_at, weight_at, ◌with◌};
+ghost use Rattle.std.specs.Prelude.{◌≡◌, ◌+◌, nat_abs};
+ghost use Rattle.loading.specs.Private.Aboard.{Stowed, Bearable, weight_at, ◌with◌};
 ghost use Rattle.ranges.specs.Fields.{most, range_of};
 
 use crate::Aboard;
-use ranges::Sides;
+use ranges::{ITEM_WIDTH, Sides};
 use std::ops::Add;
 
 // So many kg at x, y and z mm, no heavier than a tank's contents and no further off than the ranges allow.
@@ -20,30 +20,30 @@ pub(crate) struct Weight {
 impl Weight {
     ghost use Rattle.loading.specs.Private.Aboard.{StowedItem, item_at};
     ghost use Rattle.loading.specs.Private.Filled.{item_of};
-    ghost use Rattle.ranges.specs.Sizes.{item_width};
 
-    // So many kg at the x, y and z of a place.
-    pub(crate) fn at(kg: i64, place: &[i64]) -> Weight
-        requires { (length place.now ≡ 3) × Stowed (most (range_of 10)) (nat_abs kg) (size_at place.now 0) (number_at place.now 1) (size_at place.now 2) }
+    // So many kg at x, y and z.
+    pub(crate) fn at(kg: i64, x: i64, y: i64, z: i64) -> Weight
+        requires { Stowed (most (range_of 10)) (nat_abs kg) (nat_abs x) y (nat_abs z) }
         ensures kg { result.kg ≡ nat_abs kg }
-        ensures x { result.x ≡ size_at place.now 0 }
-        ensures y { result.y ≡ number_at place.now 1 }
-        ensures z { result.z ≡ size_at place.now 2 }
+        ensures x { result.x ≡ nat_abs x }
+        ensures y { result.y ≡ y }
+        ensures z { result.z ≡ nat_abs z }
     {
         Weight {
             kg: arithmetic::magnitude(kg),
-            x: arithmetic::magnitude(place[0]),
-            y: place[1],
-            z: arithmetic::magnitude(place[2]),
+            x: arithmetic::magnitude(x),
+            y,
+            z: arithmetic::magnitude(z),
         }
     }
 
-    // An item of four numbers. No `From`, since it asks that they are in their ranges.
-    pub(crate) fn of_item(numbers: &[i64]) -> Weight
-        requires { (length numbers.now ≡ item_width) × StowedItem (item_at numbers.now 0) }
+    // An item of its record. No `From`, since it asks that the numbers are in their ranges.
+    pub(crate) fn of_item(numbers: &[i64; ITEM_WIDTH]) -> Weight
+        requires { StowedItem (item_at numbers.now 0) }
         ensures { item_of result ≡ item_at numbers.now 0 }
     {
-        Weight::at(numbers[0], &numbers[1..])
+        let [kg, x, y, z] = *numbers;
+        Weight::at(kg, x, y, z)
     }
 
     // What it brings, with so much free surface.

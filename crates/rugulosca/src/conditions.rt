@@ -37,7 +37,7 @@ fn wholes_of(c: Condition) -> [u64; WHOLE_COUNT]
         c.vertical_moment,
         c.free_surface,
         lie(c.heel),
-        c.passes as u64,
+        u64::from(c.passes),
     ]
 }
 

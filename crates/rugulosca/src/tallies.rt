@@ -40,7 +40,7 @@ fn slot_in(numbers: &[i64], at: usize) -> Slot
     }
 }
 
-// The slots that these numbers make.
+// The slots that these numbers make. No `array::from_fn`, whose closure would need a clause of its own, that i is a slot's number.
 fn slots_from(numbers: [i64; SLOT_ROOM]) -> [Slot; SLOTS]
     ensures { result ≡ slots_from numbers }
 {

@@ -8,12 +8,9 @@ use loading::Reading;
 use std::io;
 use std::io::Read;
 
-// One byte more than a file may have. A longer text has the same sheet, whatever follows (report, proofs/Cut).
-const LONGEST_INPUT: usize = ranges::LONGEST_FILE + 1;
-
 // Prints the sheet of what is read. Text and lines have rooms of their own: a Vec would rest the program on C's allocator too.
 fn print_sheet(rt: &impl Print, input: &mut impl Read, reading: Reading) -> io::Result<()> {
-    let mut text = [0u8; LONGEST_INPUT];
+    let mut text = [0u8; input::LONGEST_INPUT];
     let count = input::read_full(input, &mut text)?;
     let mut lines = [0u8; report::LONGEST_SHEET];
     // The room holds every sheet, so it is never refused as too short.

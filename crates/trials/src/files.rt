@@ -13,9 +13,6 @@ const FEWEST: u64 = 153;
 // The same of those by the straight line.
 const FEWEST_BY_STRAIGHT_LINE: u64 = 72;
 
-// One byte more than a file may have.
-pub(crate) const LONGEST_INPUT: usize = ranges::LONGEST_FILE + 1;
-
 // Tries the files of the lesser KM, which is the default, then those of the straight line.
 pub(crate) fn try_all(rt: &(impl Files + Print)) -> io::Result<()> {
     try_by(rt, Reading::Lesser, FEWEST, "sheets that differ ")?;
@@ -56,7 +53,7 @@ fn trial_at(rt: &impl Files, reading: Reading, number: u64) -> io::Result<Option
     let Ok(mut file) = open_offsets(rt, reading, number) else {
         return Ok(None);
     };
-    let mut text = [0u8; LONGEST_INPUT];
+    let mut text = [0u8; input::LONGEST_INPUT];
     let text = data::read(&mut file, &mut text)?;
     let differs = !is_answer(rt, reading, number, text)?;
     let mut room = Room::new();

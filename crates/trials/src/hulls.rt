@@ -21,7 +21,7 @@ fn trial_at(rt: &impl Files, number: u64) -> io::Result<Option<Trial>> {
     let Ok(mut file) = files::open_offsets(rt, Reading::Lesser, number) else {
         return Ok(None);
     };
-    let mut text = [0u8; files::LONGEST_INPUT];
+    let mut text = [0u8; input::LONGEST_INPUT];
     let text = data::read(&mut file, &mut text)?;
     let mut room = Room::new();
     let barge = room.read(text);

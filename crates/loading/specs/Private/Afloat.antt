@@ -1,5 +1,5 @@
 -- A usable table of rows in the lent list, and where a weight within it floats: the words of private contracts.
-use Rattle.std.specs.Prelude.{ℕ, ◌+◌, ◌*◌, ◌-◌, ◌/◌, ◌≤◌, ◌<◌, ◌≡◌, Bool, true, false, not, ◌&&◌, ◌||◌, eqb, ltb, pos, List, Option, Some, None, length}
+use Rattle.std.specs.Prelude.{ℕ, zero, suc, ◌+◌, ◌*◌, ◌-◌, ◌/◌, ◌≤◌, ◌<◌, ◌≡◌, Bool, true, false, not, ◌&&◌, ◌||◌, eqb, ltb, pos, List, Option, Some, None, length}
 use Rattle.arithmetic.specs.Choice.{when◌then◌else◌}
 use Rattle.ranges.specs.Fields.{most, within, range_of, highest_metacentre}
 use Rattle.ranges.specs.Private.InRange.{row_range}
@@ -45,8 +45,14 @@ abbrev pub spaced_from : Row → Row → ℕ → Bool
 spaced_from first row r =
     eqb (2 * (first.draft / 2)) first.draft && within (range_of 3) (pos (first.draft / 2)) && eqb row.draft (waterline_of r * (first.draft / 2))
 
-abbrev pub rises_from : Row → Row → ℕ → Bool
-rises_from before row r = eqb r 0 || ltb before.displacement row.displacement
+-- row 0 has no row before it
+abbrev pub row_before : List ℕ → ℕ → Option Row
+row_before rows zero = None
+row_before rows (suc r) = Some (row_in rows r)
+
+abbrev pub rises_after : Option Row → Row → Bool
+rises_after (Some before) row = ltb before.displacement row.displacement
+rises_after None row = true
 
 abbrev pub fits_metacentre : Row → Bool
 fits_metacentre row = eqb (row.kb + row.bm) row.km || eqb (row.kb + row.bm + 1) row.km

@@ -1,7 +1,6 @@
 -- The ranges are tried first, so that KB and BM can be added. Assumes nothing.
-use mathlib.Core.Path.{sym, ap, ◌∙◌}
+use mathlib.Core.Path.{sym, ◌∙◌}
 use Rattle.std.proofs.Common.{rules}
-use Rattle.hydrostatics.specs.Usable.{row_in}
 use Rattle.loading.proofs.Trying.{unusable_range, usable_is, heights_most}
 use Rattle.loading.proofs.usable.is_usable.Goals as goal
 
@@ -13,8 +12,8 @@ metacentre_fits-requires c = heights_most c.args.numbers.now c.args.r c.requires
 
 pub returns-then-is_rising : goal.returns-then-is_rising
 returns-then-is_rising c =
-    rw (usable_is c.args.numbers.now c.args.r c.requires.1 c.row_in-row.ensures c.row_outside.ensures (sym c.is_some.ensures ∙ c.if-is_some.false) c.row_in-first.ensures (c.row_in-before.ensures ∙ ap (row_in c.args.numbers.now) c.saturating_sub.ensures)) (search rules)
+    rw (usable_is c.args.numbers.now c.args.r c.requires.1 c.row_in-row.ensures c.row_outside.ensures (sym c.is_some.ensures ∙ c.if-is_some.false) c.row_in-first.ensures c.row_before-before.ensures) (search rules)
 
 pub returns-else-is_rising : goal.returns-else-is_rising
 returns-else-is_rising c =
-    rw (usable_is c.args.numbers.now c.args.r c.requires.1 c.row_in-row.ensures c.row_outside.ensures (sym c.is_some.ensures ∙ c.if-is_some.false) c.row_in-first.ensures (c.row_in-before.ensures ∙ ap (row_in c.args.numbers.now) c.saturating_sub.ensures)) (search rules)
+    rw (usable_is c.args.numbers.now c.args.r c.requires.1 c.row_in-row.ensures c.row_outside.ensures (sym c.is_some.ensures ∙ c.if-is_some.false) c.row_in-first.ensures c.row_before-before.ensures) (search rules)
