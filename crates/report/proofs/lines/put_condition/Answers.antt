@@ -1,5 +1,6 @@
 -- Seven pieces, one after another, are the C line. Assumes nothing.
 use native.Mathlib.Omega.{arith}
+use Rattle.std.proofs.Common.{rules}
 use Rattle.arithmetic.proofs.Crossing.{back_is}
 use Rattle.report.specs.Private.Putting.{most_word}
 use Rattle.report.proofs.Fields.{condition_line_is}
@@ -23,8 +24,7 @@ put-requires-2 c =
 
 pub returns : goal.returns
 returns c =
-    let told = c.struct_told-1.given in
-    let two = rw (back_is {v = c.args.c.gm} (record { sfits = told.1.1.1.1.1.1.0.1 }), back_is {v = c.args.c.transverse_moment} (record { sfits = told.1.1.1.1.1.1.1.0.1 })) at c.put_fields-2.ensures in
+    let two = rw (back_is {v = c.args.c.gm} (record { sfits = search rules }), back_is {v = c.args.c.transverse_moment} (record { sfits = search rules })) at c.put_fields-2.ensures in
     let outcome = few_le (rw c.word.ensures.word at (few_of c.put.ensures)) most_word (rw c.word.ensures.word at c.word.ensures.few) in
     let passes = rw c.from-passes.ensures at c.put_field.ensures in
     rw (← condition_line_is c.args.c)

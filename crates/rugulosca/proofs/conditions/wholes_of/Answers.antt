@@ -4,4 +4,4 @@ use Rattle.report.proofs.Fields.{mark_is}
 use Rattle.rugulosca.proofs.conditions.wholes_of.Goals as goal
 
 pub returns : goal.returns
-returns c = rw c.lie.ensures (rw (← mark_is c.args.c.passes) refl)
+returns c = rw (c.lie.ensures, c.from.ensures) (rw (← mark_is c.args.c.passes) refl)
