@@ -25,7 +25,7 @@ impl Trial {
 }
 
 // How many cases there are, and how many of them differ or are changed.
-#[derive(Clone, Copy)]
+#[derive(Clone, Copy, Default)]
 pub(crate) struct Count {
     pub(crate) tried: u64,
     pub(crate) differing: u64,
@@ -39,11 +39,7 @@ pub(crate) fn try_each<F: Fn(u64) -> io::Result<Option<Trial>>>(
 ) -> io::Result<Count>
     requires { F.IsAlwaysCallable trial_at }
 {
-    let mut count = Count {
-        tried: 0,
-        differing: 0,
-        changed: 0,
-    };
+    let mut count = Count::default();
     for i in 0..NUMBERS {
         if let Some(trial) = trial_at(i)? {
             count.tried += 1;
