@@ -1,5 +1,5 @@
 // A text that is read from its front on, and what an answer prints held against it.
-ghost use Rattle.std.specs.Prelude.{◌≤◌, length, IfSome};
+ghost use Rattle.std.specs.Prelude.{◌<◌, ◌≤◌, length, IfSome};
 
 use std::fmt;
 
@@ -36,6 +36,18 @@ impl<'a> Text<'a> {
     // Passes the end of a line.
     pub(crate) fn line_end(&mut self) -> Option<()> {
         self.piece(b"\n")
+    }
+
+    // Passes one digit; where something else stands there, nothing is passed.
+    fn digit(&mut self) -> Option<u64>
+        ensures { IfSome result (λ digit. (digit ≤ 9) × (length self.new.rest.now < length self.old.rest.now)) }
+    {
+        let (first, rest) = self.rest.split_first()?;
+        if !first.is_ascii_digit() {
+            return None;
+        }
+        self.rest = rest;
+        Some(u64::from(first - b'0'))
     }
 
     // Reads a number.
@@ -89,22 +101,13 @@ impl Number for i64 {
 // greater ones.
 impl Number for u64 {
     fn read(text: &mut Text) -> Option<u64> {
-        let mut value = 0;
-        let mut digits = 0;
-        for byte in text.rest {
-            if !byte.is_ascii_digit() {
-                break;
-            }
+        let mut value = text.digit()?;
+        while let Some(digit) = text.digit() {
             if GREAT < value {
                 return None;
             }
-            value = 10 * value + u64::from(byte - b'0');
-            digits += 1;
+            value = 10 * value + digit;
         }
-        if digits == 0 {
-            return None;
-        }
-        text.rest = &text.rest[digits..];
         Some(value)
     }
 }

@@ -1,6 +1,6 @@
--- Each byte passed is a digit that is counted. Assumes nothing.
-use Rattle.std.proofs.Common.{◌≡◌}
+-- Each digit leaves less to be read. Assumes nothing.
+use Rattle.std.proofs.Common.{length}
 use Rattle.trials.proofs.text.U64Number.read.Given as goal
 
-abbrev pub invariant-loop-byte : goal.invariant-loop-byte
-invariant-loop-byte l = l.digits ≡ l.byte-index
+abbrev pub decreases-loop-digit : goal.decreases-loop-digit
+decreases-loop-digit l = length l.text.rest.now
