@@ -118,6 +118,7 @@ fn try_load(rt: &impl Print, items: &[i64], tanks: &[i64], rows: &[u64]) -> io::
 
 fn print_answer(rt: &impl Print, answer: Result<Condition, Refusal>) -> io::Result<()> {
     match answer {
+        // Not calls::write_refusal: that writes into a text, and this prints.
         Err(refusal) => println!(rt; "E {} {}", refusal.reason.number(), refusal.place),
         Ok(condition) => print_condition(rt, condition),
     }
@@ -132,6 +133,8 @@ fn print_condition(rt: &impl Print, c: Condition) -> io::Result<()> {
     println!(rt; " {} {}", name_of(c.heel), u8::from(c.passes))
 }
 
+// The words of a heel stand here as well: report's are bytes for its lines and private to it, and through them a `str::from_utf8` and
+// an error that cannot be would be needed.
 fn name_of(heel: Heel) -> &'static str {
     match heel {
         Heel::Unstable => "unstable",
