@@ -24,6 +24,12 @@ pub(crate) trait Call {
     fn compare(given: &mut Text, answer: &mut Text) -> Option<()>;
 }
 
+// What a call answers where it does not refuse.
+pub(crate) trait Lines: Copy {
+    // Passes its lines in an answer.
+    fn write(self, answer: &mut Text) -> fmt::Result;
+}
+
 // Room for a case, and for its answer.
 const LONGEST: usize = 16_384;
 
@@ -65,7 +71,15 @@ fn is_answered<C: Call>(given: &[u8], answer: &[u8]) -> bool {
     C::compare(&mut given, &mut answer).is_some() && given.is_at_end() && answer.is_at_end()
 }
 
+// Passes what a call made: the lines of its answer, or that of a refusal.
+pub(crate) fn write_answer<L: Lines>(answer: &mut Text, made: Result<L, Refusal>) -> fmt::Result {
+    match made {
+        Ok(lines) => lines.write(answer),
+        Err(refusal) => write_refusal(answer, refusal),
+    }
+}
+
 // The line of a refusal: E, its number and its place.
-pub(crate) fn write_refusal(answer: &mut Text, refusal: Refusal) -> fmt::Result {
+fn write_refusal(answer: &mut Text, refusal: Refusal) -> fmt::Result {
     writeln!(answer, "E {} {}", refusal.reason.number(), refusal.place)
 }

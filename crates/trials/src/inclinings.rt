@@ -1,13 +1,18 @@
 // A case of an inclining test: its own four numbers; the counts of the shifts' numbers and of the two lists', with the numbers; and the room for GMs. Its answer: each shift's GM and the light ship, or a refusal.
-use crate::calls;
-use crate::calls::Call;
+use crate::calls::{self, Call, Lines};
 use crate::text::{ROOM, Text};
 use inclining::{LightShip, Test};
-use ranges::Refusal;
 use std::fmt;
 use std::fmt::Write;
 
 pub(crate) struct Inclinings;
+
+// What a test comes to: each shift's GM, and the light ship.
+#[derive(Clone, Copy)]
+struct Found<'a> {
+    gms: &'a [u64],
+    ship: LightShip,
+}
 
 impl Call for Inclinings {
     const START: &'static str = "inclining-";
@@ -30,7 +35,8 @@ impl Call for Inclinings {
         let gms = gms.get_mut(..room)?;
         let made = inclining::light_ship(test, shifts, off, on, gms);
         let count = gms.len().min(shifts.len() / ranges::SHIFT_WIDTH);
-        write_answer(answer, &gms[..count], made).ok()
+        let gms = &gms[..count];
+        calls::write_answer(answer, made.map(|ship| Found { gms, ship })).ok()
     }
 }
 
@@ -46,14 +52,10 @@ fn test_of(given: &mut Text) -> Option<Test> {
     Some(test)
 }
 
-// The answer's lines.
-fn write_answer(answer: &mut Text, gms: &[u64], made: Result<LightShip, Refusal>) -> fmt::Result {
-    match made {
-        Ok(ship) => {
-            write_gms(answer, gms)?;
-            write_ship(answer, ship)
-        }
-        Err(refusal) => calls::write_refusal(answer, refusal),
+impl Lines for Found<'_> {
+    fn write(self, answer: &mut Text) -> fmt::Result {
+        write_gms(answer, self.gms)?;
+        write_ship(answer, self.ship)
     }
 }
 

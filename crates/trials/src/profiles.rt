@@ -1,9 +1,7 @@
 // A case of a supply vessel's profile: the count of KN with the numbers, and KM and KG. Its answer: a line of the profile's figures and rules, and a line of GZ; or a refusal.
-use crate::calls;
-use crate::calls::Call;
+use crate::calls::{self, Call, Lines};
 use crate::text::{ROOM, Text};
 use levers::{ANGLES, Profile, Rule, Rules};
-use ranges::Refusal;
 use std::fmt;
 use std::fmt::Write;
 
@@ -11,6 +9,13 @@ use std::fmt::Write;
 const UNTOUCHED: i64 = 1_000_000;
 
 pub(crate) struct Profiles;
+
+// What a table of KN comes to: GZ at each angle, and the profile.
+#[derive(Clone, Copy)]
+struct Found<'a> {
+    gz: &'a [i64; ANGLES],
+    profile: Profile,
+}
 
 impl Call for Profiles {
     const START: &'static str = "profile-";
@@ -27,27 +32,19 @@ impl Call for Profiles {
         given.line_end()?;
         let mut gz = [UNTOUCHED; ANGLES];
         let made = levers::profile_of(kn, km, kg, &mut gz);
-        write_answer(answer, &gz, made).ok()
+        // A refusal leaves the room for GZ as it was.
+        if made.is_err() && gz != [UNTOUCHED; ANGLES] {
+            return None;
+        }
+        let gz = &gz;
+        calls::write_answer(answer, made.map(|profile| Found { gz, profile })).ok()
     }
 }
 
-// The answer's lines. A refusal leaves the room for GZ as it was.
-fn write_answer(
-    answer: &mut Text,
-    gz: &[i64; ANGLES],
-    made: Result<Profile, Refusal>,
-) -> fmt::Result {
-    match made {
-        Ok(profile) => {
-            write_profile(answer, profile)?;
-            write_levers(answer, gz)
-        }
-        Err(refusal) => {
-            if *gz != [UNTOUCHED; ANGLES] {
-                return Err(fmt::Error);
-            }
-            calls::write_refusal(answer, refusal)
-        }
+impl Lines for Found<'_> {
+    fn write(self, answer: &mut Text) -> fmt::Result {
+        write_profile(answer, self.profile)?;
+        write_levers(answer, self.gz)
     }
 }
 

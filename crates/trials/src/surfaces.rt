@@ -1,9 +1,7 @@
 // A case of a hopper tank's free surface: the counts of widths to port and to starboard with the widths, the interval and the density; and its answer, a line.
-use crate::calls;
-use crate::calls::Call;
+use crate::calls::{self, Call, Lines};
 use crate::text::{ROOM, Text};
 use hoppers::FreeSurface;
-use ranges::Refusal;
 use std::fmt;
 use std::fmt::Write;
 
@@ -24,18 +22,14 @@ impl Call for Surfaces {
         let interval = given.number()?;
         let density = given.next()?;
         given.line_end()?;
-        write_answer(
-            answer,
-            hoppers::surface_of(port, starboard, interval, density),
-        )
-        .ok()
+        let made = hoppers::surface_of(port, starboard, interval, density);
+        calls::write_answer(answer, made).ok()
     }
 }
 
-// The line of a surface: A, its inertia and its moment; or that of a refusal.
-fn write_answer(answer: &mut Text, made: Result<FreeSurface, Refusal>) -> fmt::Result {
-    match made {
-        Ok(surface) => writeln!(answer, "A {} {}", surface.inertia, surface.moment),
-        Err(refusal) => calls::write_refusal(answer, refusal),
+// The line of a surface: A, its inertia and its moment.
+impl Lines for FreeSurface {
+    fn write(self, answer: &mut Text) -> fmt::Result {
+        writeln!(answer, "A {} {}", self.inertia, self.moment)
     }
 }

@@ -1,6 +1,5 @@
 // A case of the running tally: a count and so many steps, and its answer, a line a step.
-use crate::calls;
-use crate::calls::Call;
+use crate::calls::{self, Call, Lines};
 use crate::text::Text;
 use loading::Totals;
 use std::fmt;
@@ -32,7 +31,8 @@ impl Call for Tallies {
         for _ in 0..steps {
             let step = Step::read(given)?;
             let stepped = step.taken(tally);
-            write_answer(answer, &stepped).ok()?;
+            let made = stepped.answer.map(|()| stepped.tally.totals);
+            calls::write_answer(answer, made).ok()?;
             tally = stepped.tally;
         }
         Some(())
@@ -82,18 +82,13 @@ fn place_of(given: &mut Text) -> Option<Place> {
     })
 }
 
-// A step's line in the answer: A and the totals, or a refusal.
-fn write_answer(answer: &mut Text, stepped: &Stepped) -> fmt::Result {
-    match stepped.answer {
-        Ok(()) => write_totals(answer, stepped.tally.totals),
-        Err(refusal) => calls::write_refusal(answer, refusal),
+// A step's line in the answer: A and the totals.
+impl Lines for Totals {
+    fn write(self, answer: &mut Text) -> fmt::Result {
+        writeln!(
+            answer,
+            "A {} {} {} {}",
+            self.weight, self.longitudinal, self.vertical, self.transverse
+        )
     }
-}
-
-fn write_totals(answer: &mut Text, totals: Totals) -> fmt::Result {
-    writeln!(
-        answer,
-        "A {} {} {} {}",
-        totals.weight, totals.longitudinal, totals.vertical, totals.transverse
-    )
 }
