@@ -65,13 +65,13 @@ fn outside_of(kn: &[u64; ANGLES], km: u64, kg: u64) -> Option<usize>
     Some(ANGLES + place)
 }
 
-// What is taken off KN at each angle: KG times the sine, rounded up. No `map`, whose closure would need a clause of its own, that no
-// sine is above a million.
+// What is taken off KN at each angle: KG times the sine, rounded up.
 fn products_of(kg: u64) -> [u64; ANGLES]
     requires { kg ≤ most metacentre }
     ensures { result ≡ products kg }
 {
     let mut off = [0; ANGLES];
+    // No `map` over SINES: what its closure multiplies gets no bound from the table.
     for (i, sine) in SINES.iter().enumerate() {
         off[i] = arithmetic::rounded_up(kg * *sine, MILLION);
     }

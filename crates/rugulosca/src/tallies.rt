@@ -40,7 +40,8 @@ fn slot_in(numbers: &[i64], at: usize) -> Slot
     }
 }
 
-// The slots that these numbers make. No `array::from_fn`, whose closure would need a clause of its own, that i is a slot's number.
+// The slots that these numbers make. `array::from_fn` was tried, and its proof did not close: a turn tells of the closure as it was at
+// that turn, and not of the numbers that are lent to it.
 fn slots_from(numbers: [i64; SLOT_ROOM]) -> [Slot; SLOTS]
     ensures { result ≡ slots_from numbers }
 {

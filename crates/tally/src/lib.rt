@@ -59,7 +59,7 @@ pub struct Stepped {
 }
 
 impl Item {
-    // What a freed slot holds.
+    // What a freed slot holds. By name, and no `Default`, since `freed` of specs/ names it.
     const NONE: Item = Item {
         kg: 0,
         x: 0,
