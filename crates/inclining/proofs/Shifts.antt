@@ -15,8 +15,8 @@ use Prim.Native.Nat.{ℕ, zero, suc, ◌+◌, ◌*◌, ◌/◌, ◌%◌, ◌≤�
 use native.Mathlib.Nat.{add-zero, mul-le-mul}
 use native.Mathlib.Omega.{arith}
 use lib.IntN.{pos}
-use lib.ListN.{length, take, drop, get_or, set, length-map, length-drop, drop_of_length-le}
-use lib.Seq.{get_or-take, get_or-drop}
+use lib.ListN.{length, drop, get_or, set, length-map, drop_of_length-le, get_or-append}
+use lib.Seq.{get_or-drop}
 use Rattle.std.specs.Simd.{first_chunks}
 use Rattle.arithmetic.proofs.Parts.{drop_step, Stored, stored_none, stored_more, stored_all}
 use Rattle.ranges.specs.Fields.{most, shift, shift_weight, shift_distance, shift_deflection}
@@ -25,6 +25,7 @@ use Rattle.ranges.specs.Sizes.{shift_width}
 use Rattle.ranges.proofs.Facts.{all_within, within_whole}
 use Rattle.ranges.proofs.Records.{parts_inside}
 use Rattle.loading.specs.Total.{total}
+use Rattle.loading.proofs.Walks.{record_next}
 use Rattle.inclining.specs.Measured.{Shift, shifts_of, unrounded_gm, gm_measured, own_gms}
 use Rattle.inclining.specs.Private.Heeling.{heeling_by, heeling_of, shift_at, gm_by, laid_over, ShiftInRange, ShiftsInRange, HeelingInRange, most_moment, most_deflection}
 use Rattle.inclining.specs.declared.Test.{Test}
@@ -51,22 +52,20 @@ module _ (s : List ℕ) (i : ℕ) where
   same_shift : (a : List ℕ) (k : ℕ) → get_or a k 0 ≡ get_or s i 0 → get_or a (k + 1) 0 ≡ get_or s (i + 1) 0 → get_or a (k + 2) 0 ≡ get_or s (i + 2) 0 → shift_at a k ≡ shift_at s i
   same_shift a k w d f = λ j. record { weight = w j; distance = d j; deflection = f j }
 
-record_at : (s : List ℕ) (i count : ℕ) → i < count → shift_width * count ≤ length s → shift_at (get_or (first_chunks shift_width count s) i []) 0 ≡ shift_at s (shift_width * i)
-record_at s i zero h k = absurd (omega arith)
-record_at s zero (suc count) h k =
-    same_shift s 0 (take shift_width s) 0 (get_or-take shift_width s 0 0 (omega arith)) (get_or-take shift_width s 1 0 (omega arith)) (get_or-take shift_width s 2 0 (omega arith))
-record_at s (suc i) (suc count) h k =
-    let next : shift_width + shift_width * i ≡ shift_width * suc i = omega arith in
-    let one : shift_width + (shift_width * i + 1) ≡ shift_width * suc i + 1 = omega arith in
-    let two : shift_width + (shift_width * i + 2) ≡ shift_width * suc i + 2 = omega arith in
-    record_at (drop shift_width s) i count (omega arith) (omega (arith, length-drop shift_width s))
-    ∙ same_shift s (shift_width * suc i) (drop shift_width s) (shift_width * i)
-    (get_or-drop shift_width s (shift_width * i) 0 ∙ ap (λ j. get_or s j 0) next)
-    (get_or-drop shift_width s (shift_width * i + 1) 0 ∙ ap (λ j. get_or s j 0) one)
-    (get_or-drop shift_width s (shift_width * i + 2) 0 ∙ ap (λ j. get_or s j 0) two)
-
 pub shift_of_record : (s : List ℕ) {records : List (List ℕ)} → records ≡ first_chunks shift_width (length s / shift_width) s → (i : ℕ) → i < length s / shift_width → shift_at (get_or records i []) 0 ≡ shift_at s (shift_width * i)
-shift_of_record s e i h = rw e (record_at s i (length s / shift_width) h (omega arith))
+shift_of_record s {records} e i h =
+    let none : shift_width * i + 0 ≡ shift_width * i = omega arith in
+    same_shift s (shift_width * i) numbers 0 (at 0 (omega arith) ∙ ap (λ j. get_or s j 0) none) (at 1 (omega arith)) (at 2 (omega arith))
+  where
+    numbers : List ℕ
+    numbers = get_or records i []
+
+    at : (k : ℕ) → k < shift_width → get_or numbers k 0 ≡ get_or s (shift_width * i + k) 0
+    at k l =
+        let next = record_next shift_width s e i h (omega arith) in
+        sym (get_or-append numbers (drop (shift_width * (i + 1)) s) 0 k (omega (arith, next.1)))
+        ∙ ap (λ rest. get_or rest k 0) (sym next.0)
+        ∙ get_or-drop (shift_width * i) s k 0
 
 -- ---- each in range
 abbrev pub Every : (Shift → Type 0) → List Shift → Type 0
