@@ -1,31 +1,36 @@
 -- Pieces put into lent room, one after another.
 --     few_of_wholes, few_of_signed     a number that 64 bits hold takes 21 bytes at most
---     piece_put                        bytes that were copied to the place after what was put
---     number_put                       a number that was printed into the room that was left
+--     piece_put, piece_laid            bytes that were copied to the place after what was put, or laid into the room that was left
+--     text_unlaid, lines_same          bytes that were laid into room too short for them; with the text as it was, all is
+--     with_room, without_room          what is answered where there is room, and where there is none
+--     was_put                          what there was room for was put
 --     puts_none, puts_append           nothing is put; two pieces, one after the other
 --     puts_length                      what is put grows by the piece
 --     room_first, room_second          room for two pieces is room for the first, and then for the second
+--     both_put                         what there was room for was put, of two pieces
 --     Leads                            what is left to put leads to the whole
 --     leads_all, leads_on, leads_end   nothing put yet; one piece more; nothing left
 --     room_for_next                    the room suffices for the next piece
 --     in_front                         what was put into a text from its front
 -- Assumes nothing.
 use mathlib.Core.Bool.{Bool, true, false}
-use mathlib.Core.Path.{◌≡◌, refl, sym, ap, ◌∙◌}
+use mathlib.Core.Path.{◌≡◌, refl, sym, ap, subst, ◌∙◌}
 use mathlib.Core.List.{List, [], ◌++◌, append_assoc, append-nil}
 use Prim.Native.Nat.{ℕ, ◌+◌, ◌-◌, ◌^◌, ◌≤◌, ◌<◌}
 use native.Mathlib.Omega.{arith}
 use lib.IntN.{ℤ, pos, nat_abs}
 use lib.ListN.{length, take, drop, length-append, length-drop, take-append-drop}
 use lib.Seq.{length-take-le, take_at, drop_at, drop-drop}
+use native.Mathlib.Bridge.{le_prop}
+use borrow.Rule.Slice.Mut.{set_vals}
 use mir.Syntax.{w64}
 use mir.Val.{Fits, SFits}
 use Rattle.arithmetic.specs.Signed.{is_negative}
 use Rattle.arithmetic.specs.Room.{laid}
 use Rattle.arithmetic.proofs.Crossing.{back_is, turn, cast_defined}
 use Rattle.arithmetic.proofs.Parts.{part_filled, part_end}
-use Rattle.arithmetic.proofs.Room.{laid_fits}
-use Rattle.numerals.specs.Pieces.{said_in, room_of, Puts, HasRoom, InFront}
+use Rattle.arithmetic.proofs.Room.{laid_fits, laid_short}
+use Rattle.numerals.specs.Pieces.{said_in, room_of, Puts, HasRoom, PutsWhereRoom, InFront}
 use Rattle.numerals.specs.Printed.{printed, most_printed}
 use Rattle.numerals.specs.Private.Sign.{most_printed_digits}
 use Rattle.numerals.specs.declared.lines.Lines.{Lines}
@@ -77,6 +82,33 @@ module _ (was is : Lines) (bytes : List ℕ) (same : is.text.ghost_name ≡ was.
       let fits : length bytes ≤ length part = rw part_end (omega (arith, length-drop was.at text)) in
       stands (f ∙ part_filled was.at (length bytes) (take was.at text) bytes text text back (length-take-le was.at text (omega arith)) (sym (take-append-drop was.at text)) (e ∙ laid_fits bytes part fits))
 
+-- ---- where there is room, and where there is none
+abbrev with_text : (l : Lines) (text : List ℕ) → l.at ≤ length text → Lines
+with_text l text within = record { text = set_vals text l.text; at = l.at; within = within }
+
+pub lines_same : (l : Lines) {text : List ℕ} (within : l.at ≤ length text) → text ≡ l.text.now → with_text l text within ≡ l
+lines_same l within e = subst (λ t. (w : l.at ≤ length t) → with_text l t w ≡ l) (sym e) (λ w. ap (λ v. with_text l l.text.now v) (le_prop w l.within)) within
+
+-- the part from the place on was too short for bytes to be laid into it
+pub text_unlaid : (was : Lines) (bytes back : List ℕ) → length was.text.now - was.at < length bytes
+    → back ≡ laid bytes (take (length was.text.now - was.at) (drop was.at was.text.now))
+    → take was.at was.text.now ++ (back ++ drop (length was.text.now - was.at) (drop was.at was.text.now)) ≡ was.text.now
+text_unlaid was bytes back short e =
+    let text = was.text.now in
+    let room = length text - was.at in
+    let small : length (take room (drop was.at text)) < length bytes = rw part_end (omega (arith, length-drop was.at text)) in
+    rw (e, laid_short bytes (take room (drop was.at text)) small, take-append-drop, take-append-drop) refl
+
+module _ {bytes : List ℕ} {was is : Lines} where
+  pub with_room : length bytes ≤ length was.text.now - was.at → Puts bytes was is → PutsWhereRoom bytes was is true
+  with_room h p = record { put_if = λ _. (p, refl); else_same = λ short. absurd (omega (arith, length-drop was.at was.text.now)) }
+
+  pub without_room : length was.text.now - was.at < length bytes → is ≡ was → PutsWhereRoom bytes was is false
+  without_room h e = record { put_if = λ room. absurd (omega (arith, room.enough, length-drop was.at was.text.now)); else_same = λ _. (e, refl) }
+
+  pub was_put : {put : Bool} → HasRoom (length bytes) was → PutsWhereRoom bytes was is put → Puts bytes was is
+  was_put room p = (p.put_if room).0
+
 -- ---- pieces
 pub puts_append : {a b : List ℕ} {was mid is : Lines} → Puts a was mid → Puts b mid is → Puts (a ++ b) was is
 puts_append {a} {b} {was} p q = record {
@@ -99,6 +131,10 @@ room_first a b h = record { enough = omega (arith, h.enough, length-append a b) 
 
 pub room_second : {a : List ℕ} (b : List ℕ) {was is : Lines} → HasRoom (length (a ++ b)) was → Puts a was is → HasRoom (length b) is
 room_second {a} b h p = record { enough = omega (arith, h.enough, room_left p, length-append a b) }
+
+-- there was room for two pieces, so that both were put
+pub both_put : {a b : List ℕ} {was mid is : Lines} {put also : Bool} → HasRoom (length (a ++ b)) was → PutsWhereRoom a was mid put → PutsWhereRoom b mid is also → Puts (a ++ b) was is
+both_put {a} {b} h p q = let first = was_put (room_first a b h) p in puts_append first (was_put (room_second b h first) q)
 
 -- ---- what is left to put
 -- to put `rest` here is to put `whole` at the start, and there is room for it

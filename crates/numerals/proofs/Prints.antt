@@ -3,7 +3,7 @@
 --     printed_by_sign, length_by_sign     its text is a minus or none, and the digits of its size
 --     Spelled, spelled                    the digits that `io::decimal` wrote are the number's
 --     prints_short                        what a call leaves where the room is too short
---     prints_fits                         what is left where it is not, once the digits are copied into the part that is lent for them
+--     digits_fit, prints_fits             where it is not: the part that is lent for the digits is as long as they are; what is left once they are copied there
 -- Assumes nothing.
 use Prim.Native.Nat.{ℕ, zero, suc, ◌+◌, ◌-◌, ◌≤◌, ◌<◌}
 use mathlib.Core.Bool.{Bool, true, false}
@@ -11,10 +11,10 @@ use mathlib.Core.Path.{◌≡◌, refl, sym, ap, ap₂, ◌∙◌}
 use mathlib.Core.List.{List, [], ◌∷◌, ◌++◌, append_assoc}
 use native.Mathlib.Omega.{arith}
 use lib.IntN.{ℤ}
-use lib.ListN.{length, take, drop, set, length-append}
+use lib.ListN.{length, take, drop, set, length-append, length-set}
 use lib.Seq.{take_at, drop-set-lt}
 use mir.Val.{bool_byte}
-use borrow.Rule.Slice.PartMut.{Post-is}
+use borrow.Rule.Slice.PartMut.{mid_len, Post-is}
 use Rattle.arithmetic.proofs.Room.{laid_fits, laid_short}
 use Rattle.io.specs.Counts.{IsPrefixLen}
 use Rattle.io.specs.Digits.{last_digits as digits, IsDigitCount}
@@ -77,6 +77,12 @@ module _ (sign : Bool) (n : ℕ) (some : sign ≡ true → 0 < n) where
 
     pub prints_short : length room < bool_byte sign + count → Prints (with_sign sign n) room room (bool_byte sign + count)
     prints_short h = record { length_is = length_is; left = sym (laid_short _ room (omega (arith, length_is))) }
+
+    -- whatever is in the first place, the part from the digits' start on that is lent for them is as long as they are
+    pub digits_fit : (b : ℕ) → bool_byte sign + count ≤ length room → length (part (bool_byte sign) (bool_byte sign + count) (set room 0 b)) ≡ length (take count digits)
+    digits_fit b h =
+        rw d.text_is
+        (mid_len (bool_byte sign) (bool_byte sign + count) (set room 0 b) (omega (arith, length-set room 0 b)) ∙ omega (arith, d.count_is))
 
     -- a minus went into the first place, and the digits into that part, which came back
     pub prints_fits :

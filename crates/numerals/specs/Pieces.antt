@@ -1,6 +1,5 @@
 -- A text put piece by piece into lent room: what is put so far, and the room that is left for more.
-use Rattle.std.specs.Prelude.{ℕ, ◌≤◌, ◌≡◌, List, ◌++◌, ℤ, length, take, drop}
-use Rattle.numerals.specs.Printed.{printed, most_printed}
+use Rattle.std.specs.Prelude.{ℕ, ◌≤◌, ◌<◌, ◌≡◌, Bool, true, false, List, ◌++◌, length, take, drop}
 use Rattle.numerals.specs.declared.lines.Lines.{Lines}
 
 -- what is put so far
@@ -21,9 +20,10 @@ pub record Puts (bytes : List ℕ) (was is : Lines) : Type 0 where
 pub record HasRoom (count : ℕ) (l : Lines) : Type 0 where
   pub enough : count ≤ length (room_of l)
 
--- there is room for a number, which is never longer than the longest
-pub record HasRoomForNumber (v : ℤ) (l : Lines) : Type 0 where
-  pub enough : length (printed v) ≤ most_printed → length (printed v) ≤ length (room_of l)
+-- bytes are put where there is room for them, and else all stays as it was; the answer says which
+pub record PutsWhereRoom (bytes : List ℕ) (was is : Lines) (put : Bool) : Type 0 where
+  pub put_if : HasRoom (length bytes) was → Puts bytes was is × (put ≡ true)
+  pub else_same : length (room_of was) < length bytes → (is ≡ was) × (put ≡ false)
 
 -- bytes are put in front of lent room, and what stood behind them stays; their count is answered
 pub record InFront (bytes room room_left : List ℕ) (count : ℕ) : Type 0 where

@@ -28,7 +28,8 @@ impl Printable for i64 {
     }
 }
 
-// Lent room, and how many bytes of it are put. No `Cursor` of std's, whose writes each answer a Result: here room is asked for before.
+// Lent room, and how many bytes of it are put. Who knows that there is room need not look at what a put answers. No `Cursor` of std's,
+// whose write puts a part where the room is short.
 #[derive(Drop)]
 pub struct Lines<'a> {
     text: &'a mut [u8],
@@ -37,7 +38,7 @@ pub struct Lines<'a> {
 }
 
 impl<'a> Lines<'a> {
-    ghost use Rattle.numerals.specs.Pieces.{Puts, HasRoom, HasRoomForNumber, said_in, room_of};
+    ghost use Rattle.numerals.specs.Pieces.{PutsWhereRoom, said_in, room_of};
 
     // Nothing is put yet.
     pub fn over(text: &'a mut [u8]) -> Lines<'a>
@@ -55,32 +56,42 @@ impl<'a> Lines<'a> {
         self.text[..self.at].len()
     }
 
-    // Puts a byte.
-    pub fn put_byte(&mut self, byte: u8)
-        requires { HasRoom 1 self.old }
-        ensures { Puts (byte ∷ []) self.old self.new }
+    // Puts a byte where there is room for it, and answers whether it did.
+    pub fn put_byte(&mut self, byte: u8) -> bool
+        ensures { PutsWhereRoom (byte ∷ []) self.old self.new result }
     {
+        if self.at == self.text.len() {
+            return false;
+        }
         self.text[self.at] = byte;
         self.at += 1;
+        true
     }
 
-    // Puts some bytes.
-    pub fn put(&mut self, bytes: &[u8])
-        requires { HasRoom (length bytes.now) self.old }
-        ensures { Puts bytes.now self.old self.new }
+    // Puts some bytes, all or none.
+    pub fn put(&mut self, bytes: &[u8]) -> bool
+        ensures { PutsWhereRoom bytes.now self.old self.new result }
     {
+        if self.text.len() - self.at < bytes.len() {
+            return false;
+        }
         let end = self.at + bytes.len();
         self.text[self.at..end].copy_from_slice(bytes);
         self.at = end;
+        true
     }
 
-    // Puts a number.
-    pub fn put_number<N: Printable>(&mut self, number: N)
-        requires { HasRoomForNumber (N.value number) self.old }
-        ensures puts { Puts (printed (N.value number)) self.old self.new }
+    // Puts a number, whole or not at all: printing leaves room that is too short as it was.
+    pub fn put_number<N: Printable>(&mut self, number: N) -> bool
+        ensures puts { PutsWhereRoom (printed (N.value number)) self.old self.new result }
         ensures few { length (printed (N.value number)) ≤ most_printed }
     {
+        let room = self.text.len() - self.at;
         let count = number.print(&mut self.text[self.at..]);
+        if room < count {
+            return false;
+        }
         self.at += count;
+        true
     }
 }

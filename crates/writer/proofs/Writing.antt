@@ -1,15 +1,16 @@
 -- What is promised of the room, where a file passed the writer's tests.
---     writes_refused        a refusal
---     writes_straight       room that the text is put in front of
---     writes_short          room that is too short for the text
---     writes_copied         the text put in front of an array, and copied from there
+--     writes_refused                   a refusal
+--     writes_straight                  room that the text is put in front of
+--     TextStands, writes_text          the text stands in front of an array, and is copied from there
+--     text_stands, writes_copied       it was put there, and is copied from there
+--     writes_short                     room that is too short for it
 -- Assumes nothing.
-use mathlib.Core.Path.{◌≡◌, refl, sym, ◌∙◌}
+use mathlib.Core.Path.{◌≡◌, refl, sym, ap, ◌∙◌}
 use mathlib.Core.List.{List, ◌++◌}
 use Prim.Native.Nat.{ℕ, ◌≤◌, ◌<◌}
 use native.Mathlib.Omega.{arith}
 use lib.IntN.{ℤ}
-use lib.ListN.{length, take, drop}
+use lib.ListN.{length, take, drop, length-append}
 use lib.Seq.{take_at}
 use Rattle.std.specs.Prelude.{Result, Ok, Err}
 use Rattle.numerals.specs.Pieces.{InFront}
@@ -35,13 +36,28 @@ module _ {p : Particulars} {h : List ℕ} {i t : List ℤ} {room : List ℕ} whe
       record { answer_is = rw (answer, front.count_is); left = front.left ∙ rw answer }
 
 -- the text stands in front of an array
-module _ {p : Particulars} {h : List ℕ} {i t : List ℤ} {was array : List ℕ} {count : ℕ} (o : Passes p h i t) (front : InFront (text_of p h i t) was array count) where
-  stands : take count array ≡ text_of p h i t
-  stands = rw front.left (take_at (text_of p h i t) (drop (length (text_of p h i t)) was) count (sym front.count_is))
+pub record TextStands (p : Particulars) (h : List ℕ) (i t : List ℤ) (array : List ℕ) (count : ℕ) : Type 0 where
+  pub count_is : count ≡ length (text_of p h i t)
+  pub stands : take count array ≡ text_of p h i t
+  pub within : count ≤ length array
 
-  pub writes_short : {room : List ℕ} {r : Refusal} → length room < count → r ≡ record { reason = RoomTooShort; place = count } → Writes p h i t room room (Err r)
-  writes_short {room} {r} l e =
-      writes_refused {r = r} (rw (e, front.count_is) (refuses_room p h i t (length room) o (omega (arith, front.count_is)))) refl
+module _ {p : Particulars} {h : List ℕ} {i t : List ℤ} {array : List ℕ} {count : ℕ} (o : Passes p h i t) where
+  pub writes_text : {room left : List ℕ} → TextStands p h i t array count → count ≤ length room → left ≡ take count array ++ drop count room → Writes p h i t room left (Ok count)
+  writes_text s l e = writes_straight o (omega (arith, s.count_is)) (record { count_is = s.count_is; left = e ∙ rw (s.stands, s.count_is) refl })
 
-  pub writes_copied : {room left : List ℕ} → count ≤ length room → left ≡ take count array ++ drop count room → Writes p h i t room left (Ok count)
-  writes_copied l e = writes_straight o (omega (arith, front.count_is)) (record { count_is = front.count_is; left = e ∙ rw (stands, front.count_is) refl })
+  -- it was put there
+  module _ {was : List ℕ} (front : InFront (text_of p h i t) was array count) where
+    pub text_stands : TextStands p h i t array count
+    text_stands =
+        record {
+          count_is = front.count_is;
+          stands = rw front.left (take_at (text_of p h i t) (drop (length (text_of p h i t)) was) count (sym front.count_is));
+          within = omega (arith, front.count_is, ap length front.left, length-append (text_of p h i t) (drop (length (text_of p h i t)) was));
+        }
+
+    pub writes_short : {room : List ℕ} {r : Refusal} → length room < count → r ≡ record { reason = RoomTooShort; place = count } → Writes p h i t room room (Err r)
+    writes_short {room} {r} l e =
+        writes_refused {r = r} (rw (e, front.count_is) (refuses_room p h i t (length room) o (omega (arith, front.count_is)))) refl
+
+    pub writes_copied : {room left : List ℕ} → count ≤ length room → left ≡ take count array ++ drop count room → Writes p h i t room left (Ok count)
+    writes_copied l e = writes_text text_stands l e
