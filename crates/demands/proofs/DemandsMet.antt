@@ -1,12 +1,14 @@
 -- The three demands are met.
 --     demands_met        all of `Demands`, from the theorems of the crates below
+--     told_of_18         what `told_by_a_number` says at 18, which is the paper's, and no call refuses with
 -- Assumes nothing.
 use mathlib.Core.Path.{◌≡◌, refl, sym, ap, subst₂, ◌∙◌}
 use mathlib.Core.List.{List}
 use Prim.Native.Nat.{ℕ}
 use lib.IntN.{ℤ, pos}
 use Rattle.std.specs.Prelude.{Ok}
-use Rattle.ranges.specs.Outcome.{value_after}
+use Rattle.ranges.specs.Outcome.{refused, value_after}
+use Rattle.ranges.proofs.Numbered.{numbered, refused_of_the_paper}
 use Rattle.ranges.proofs.Outcomes.{answer_known}
 use Rattle.simpson.proofs.Front.{curve_two, curve_three, curve_off}
 use Rattle.simpson.proofs.Moments.{curve_exact, answer_exact}
@@ -30,7 +32,7 @@ use Rattle.loading.proofs.ByRow.{own_weight_stands, read_between}
 use Rattle.loading.proofs.Demand3 as Third
 use Rattle.loading.proofs.Demand3.{ConditionOver}
 use Rattle.tally.proofs.Histories.{totals_after, answers_alike, always_sound, usable_at_once, condition_after, stepped_on}
-use Rattle.rugulosca.specs.Told.{place_after}
+use Rattle.rugulosca.specs.Told.{Tells, place_after}
 use Rattle.rugulosca.proofs.Apart.{apart}
 use Rattle.demands.specs.Answering.{Answer}
 use Rattle.demands.specs.Conditioned.{Conditioned, IsCondition}
@@ -60,8 +62,9 @@ demand_1 = record {
   of_a_step = step_answers;
   of_the_totals = totals_answer;
   of_the_condition_aboard = aboard_answers;
-  told_by_a_number = λ {value = value} {was = was} {place = place} numbered tells. (
-    apart numbered tells,
+  -- made anew of its field, whichever record of numbers it is
+  told_by_a_number = λ {value = value} {was = was} {place = place} h tells. (
+    apart (record { of_the_paper = h.of_the_paper }) tells,
     λ n p e. (tells.place_is ∙ ap (λ o. place_after o place) e, tells.value_is ∙ ap (λ o. value_after value o was) e),
   );
 }
@@ -153,3 +156,10 @@ demands_met = record {
   inclining_test = inclining_test;
   supply_vessels = supply_vessels;
 }
+
+-- ---- at a number that no call refuses with: what is asked of the outcome is searched among the laws of all that may be asked, so that more of it fails here
+told_of_18 : {A B : Type 0} {value : A → B} {was left : B} {p place placeLeft number : ℕ} → Tells value (refused 18 p) was left place placeLeft number → (number ≡ 18) × (placeLeft ≡ p) × (left ≡ was)
+told_of_18 {p} tells =
+    let told = demands_met.demand_1.told_by_a_number (search (refused_of_the_paper, numbered)) tells in
+    let left = told.1 18 p refl in
+    ((told.0.else_numbered refl).0, left.0, left.1)

@@ -2,7 +2,7 @@
 -- Besides what is said here, each call returns on every input and is lent nothing on a condition: no function is accepted that may not end,
 -- and no public call has a `requires`.
 use Rattle.std.specs.Prelude.{◌≡◌, List, ℕ, ◌-◌, ◌*◌, ◌/◌, ◌≤◌, ◌<◌, ℤ, pos, length, get_or, take, Ok}
-use Rattle.ranges.specs.Outcome.{Outcome, refused, Numbered}
+use Rattle.ranges.specs.Outcome.{Outcome, refused, OfThePaper}
 use Rattle.ranges.specs.Reasons.{paper}
 use Rattle.ranges.specs.Sizes.{rows_over}
 use Rattle.ranges.specs.declared.Particulars.{Particulars}
@@ -85,7 +85,7 @@ pub record Demand1 : Type 1 where
   pub of_the_condition_aboard : (t : Tally) (tanks : List ℤ) (rows : List ℕ)
       → AnswersOrRefuses (λ (answer : Answer Condition). paper answer ≡ condition_aboard t tanks rows) paper (λ answer. Unit)
   -- and as the calls for other languages tell it, by a number: 0, or the refusal's; with its place, and the values as they were
-  pub told_by_a_number : {A B : Type 0} {value : A → B} {outcome : Outcome A} {was left : B} {place placeLeft number : ℕ} → Numbered outcome → Tells value outcome was left place placeLeft number
+  pub told_by_a_number : {A B : Type 0} {value : A → B} {outcome : Outcome A} {was left : B} {place placeLeft number : ℕ} → OfThePaper outcome → Tells value outcome was left place placeLeft number
       → Apart outcome number × ((n p : ℕ) → outcome ≡ refused n p → (placeLeft ≡ p) × (left ≡ was))
 
 pub record Demand2 : Type 0 where

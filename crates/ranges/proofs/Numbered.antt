@@ -1,6 +1,7 @@
 -- A refusal has one of the paper's numbers (`Numbered` of specs); so none has 0. Each part that definitions are made of keeps this.
 --     answered_numbered     an answer
 --     refused_numbered      a refusal with such a number
+--     numbered_of_the_paper, refused_of_the_paper     what is so is `OfThePaper`; and so is a refusal by its bounds alone
 --     passed_on             a refusal that is passed on, in place of another answer
 --     if_numbered           a test, if both ways are
 --     then_numbered         a step, if what stands before it and all that may follow are
@@ -14,7 +15,7 @@ use native.Mathlib.Omega.{arith}
 use lib.Dec.{lit≤}
 use Rattle.arithmetic.specs.Choice.{when◌then◌else◌}
 use Rattle.arithmetic.proofs.Choice.{if_either}
-use Rattle.ranges.specs.Outcome.{Outcome, answered, refused, and_then, answer_with, Numbered}
+use Rattle.ranges.specs.Outcome.{Outcome, answered, refused, and_then, answer_with, OfThePaper, Numbered}
 use Rattle.ranges.specs.Refusals.{first_refusal, last_refusal, is_given}
 use Rattle.ranges.proofs.Outcomes.{refused_not}
 
@@ -26,6 +27,12 @@ refused_numbered {number} first last given = record {
   of_the_paper = λ {number = n} e. let same : number ≡ n = cc in (omega arith, omega arith);
   by_a_call = λ {number = n} e. let same : number ≡ n = cc in rw same at given;
 }
+
+pub numbered_of_the_paper : {A : Type 0} {o : Outcome A} → Numbered o → OfThePaper o
+numbered_of_the_paper h = record { of_the_paper = h.of_the_paper }
+
+pub refused_of_the_paper : {A : Type 0} {number place : ℕ} → first_refusal ≤ number → number ≤ last_refusal → OfThePaper {A = A} (refused number place)
+refused_of_the_paper {number} first last = record { of_the_paper = λ {number = n} e. let same : number ≡ n = cc in (omega arith, omega arith) }
 
 pub passed_on : {A B : Type 0} {number place : ℕ} → Numbered {A = A} (refused number place) → Numbered {A = B} (refused number place)
 passed_on h = let numbers = h.of_the_paper refl in refused_numbered numbers.0 numbers.1 (h.by_a_call refl)

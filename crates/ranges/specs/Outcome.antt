@@ -27,6 +27,10 @@ unfoldable pub left_with : {A B : Type 0} → (A → List B) → Outcome A → L
 left_with numbers (answered a) was = numbers a ++ drop (length (numbers a)) was
 left_with numbers (refused number place) was = was
 
+-- what is refused has a number from the paper's first to its last
+pub record OfThePaper {A : Type 0} (outcome : Outcome A) : Type 0 where
+  pub of_the_paper : {number place : ℕ} → outcome ≡ refused number place → (first_refusal ≤ number) × (number ≤ last_refusal)
+
 -- "Refusals by number": what is refused has one of the paper's numbers
 pub record Numbered {A : Type 0} (outcome : Outcome A) : Type 0 where
   pub of_the_paper : {number place : ℕ} → outcome ≡ refused number place → (first_refusal ≤ number) × (number ≤ last_refusal)

@@ -1,8 +1,10 @@
 // The range of each number of the paper, and a number held against one.
-ghost use Rattle.std.specs.Prelude.{◌≡◌, ◌<◌, ℤ, List, pos, map, length};
+ghost use Rattle.std.specs.Prelude.{◌≡◌, ◌<◌, ℤ, List, pos, map, length, refl};
+ghost use Rattle.std.proofs.Common.{sym};
+ghost use Rattle.std.proofs.lemmas.List.{map-id};
 ghost use Rattle.ranges.specs.Fields.{within};
 ghost use Rattle.ranges.specs.Bounds.{range_by, section_of};
-ghost use Rattle.ranges.specs.Numbers.{ReadsEach, as_they_are, reads_wholes, reads_signed};
+ghost use Rattle.ranges.specs.Numbers.{ReadsEach, as_they_are};
 
 use crate::{INCLINING_WIDTH, ITEM_WIDTH, PARTICULAR_COUNT, ROW_WIDTH, SHIFT_WIDTH, TANK_WIDTH};
 
@@ -31,7 +33,7 @@ impl Number for u64 {
 
     ghost values = { map pos };
 
-    ghost reads_each = { reads_wholes };
+    ghost reads_each = { λ table. refl };
 
     #[tactic(auto, unfolding(crate::specs::Fields::within))]
     fn is_within(self, bounds: Bounds) -> bool {
@@ -47,7 +49,7 @@ impl Number for i64 {
 
     ghost values = { as_they_are };
 
-    ghost reads_each = { reads_signed };
+    ghost reads_each = { λ table. sym (map-id table) };
 
     #[tactic(auto, unfolding(crate::specs::Fields::within))]
     fn is_within(self, bounds: Bounds) -> bool {

@@ -14,7 +14,7 @@ use native.Mathlib.Omega.{arith}
 use lib.Ieee.{Float}
 use lib.IntN.{ℤ}
 use Rattle.arithmetic.proofs.Only.{only}
-use Rattle.ranges.specs.Outcome.{Outcome, answered, refused, value_after, Numbered}
+use Rattle.ranges.specs.Outcome.{Outcome, answered, refused, value_after, OfThePaper}
 use Rattle.std.specs.Prelude.{Result}
 use Rattle.ranges.specs.declared.Particulars.{Particulars}
 use Rattle.ranges.specs.declared.refusal.Refusal.{Refusal}
@@ -34,7 +34,7 @@ pub declined : {A B : Type 0} (value : A → B) {o : Outcome A} {was : B} {place
 declined value {was} {place} e =
     record { number_is = ap number_of e; place_is = ap (λ o. place_after o place) e; value_is = ap (λ o. value_after value o was) e }
 
-pub told_apart : {A : Type 0} {o : Outcome A} → Numbered o → number_of o ≡ 0 → (a : A) × (o ≡ answered a)
+pub told_apart : {A : Type 0} {o : Outcome A} → OfThePaper o → number_of o ≡ 0 → (a : A) × (o ≡ answered a)
 told_apart {o = answered a} h e = (a, refl)
 told_apart {o = refused number place} h e = let numbers = h.of_the_paper refl in absurd (omega arith)
 
