@@ -67,9 +67,18 @@ fn ends_here(text: &[u8], place: usize) -> bool
     place >= text.len() || is_separator(text[place])
 }
 
+// One by one: of this the program makes one test of a bit, and of `matches!` a comparison for each.
 #[tactic(auto, unfolding(crate::specs::Tokens::is_separator))]
 fn is_separator(b: u8) -> bool
     ensures { result ≡ is_separator b }
 {
-    matches!(b, b' ' | b'\n' | b'\t' | b'\r')
+    if b == b' ' {
+        true
+    } else if b == b'\n' {
+        true
+    } else if b == b'\t' {
+        true
+    } else {
+        b == b'\r'
+    }
 }
