@@ -1,8 +1,10 @@
 // The inclining test: GM as measured by shifting weights, and the light ship that follows from it.
 #![tactic(auto)]
 
-ghost use Rattle.std.specs.Prelude.{◌≡◌, ◌*◌, ◌/◌, ◌≤◌, length};
+ghost use Rattle.std.specs.Prelude.{◌≡◌, ◌*◌, ◌/◌, ◌≤◌, length, map, pos};
 ghost use Rattle.ranges.specs.Bounds.{place_in};
+ghost use Rattle.ranges.specs.Fields.{shift};
+ghost use Rattle.ranges.specs.Outside.{first_outside};
 ghost use Rattle.ranges.specs.Reasons.{paper};
 ghost use Rattle.ranges.specs.Sizes.{shift_width};
 ghost use Rattle.loading.specs.Items.{totals_of_items};
@@ -86,6 +88,24 @@ fn wrong_table(shifts: usize, off: usize, on: usize, room: usize) -> Option<usiz
     None
 }
 
+// The place of the first number of the shifts out of its range. Shift by shift: of three numbers the compiler has the three ranges as
+// constants, where a walk over the whole table takes a remainder for each number.
+fn shift_outside(shifts: &[u64]) -> Option<usize>
+    ensures { result ≡ place_in (length shifts.now) (first_outside shift (map pos shifts.now)) }
+{
+    let (records, rest) = shifts.as_chunks::<SHIFT_WIDTH>();
+    for (i, numbers) in records.iter().enumerate() {
+        if let Some(place) = ranges::first_outside(numbers, Record::Shift) {
+            return Some(SHIFT_WIDTH * i + place);
+        }
+    }
+    // What is no whole shift.
+    if let Some(place) = ranges::first_outside(rest, Record::Shift) {
+        return Some(SHIFT_WIDTH * records.len() + place);
+    }
+    None
+}
+
 // The position on the sheet of the first number out of its range: of the test's own, the shifts, the list to take off, the list to put on.
 // The three tables stay parameters, as the public call is lent them: no fact about them together stands in a clause.
 fn outside_of(test: Test, shifts: &[u64], off: &[i64], on: &[i64]) -> Option<usize>
@@ -95,7 +115,7 @@ fn outside_of(test: Test, shifts: &[u64], off: &[i64], on: &[i64]) -> Option<usi
     if let Some(place) = ranges::first_outside(&numbers, Record::InclinedShip) {
         return Some(place);
     }
-    if let Some(place) = ranges::first_outside(shifts, Record::Shift) {
+    if let Some(place) = shift_outside(shifts) {
         return Some(INCLINING_WIDTH + place);
     }
     if let Some(place) = ranges::first_outside(off, Record::Item) {
