@@ -44,7 +44,8 @@ impl Hull<'_> {
     }
 
     // What waterline j contributes, in one sweep that tries each half-breadth as it reads it; nothing where one is out of
-    // range. `stations` has the multiplier of each station.
+    // range. `stations` has the multiplier of each station. Out of line: beside its caller's values the sweep's do not all find registers.
+    #[inline(never)]
     fn waterline_sums(&self, stations: &[u64], j: usize) -> Option<Waterline>
         requires { (StationMultipliers self.now.particulars.n stations.now) × (j ≤ self.now.particulars.m) }
         ensures { GatheredOf self.now.half_breadths.now self.now.particulars j result }
