@@ -1,4 +1,7 @@
 // What an offset file says: its hull, its items and its tanks.
+ghost use Rattle.std.specs.Prelude.{◌≤◌};
+ghost use Rattle.ranges.specs.Sizes.{room_for_half_breadths};
+
 use ranges::Particulars;
 
 // Room for the tables of any file.
@@ -40,7 +43,7 @@ impl Room {
         let tanks = summary.tanks.min(ranges::MOST_TANKS) * ranges::TANK_WIDTH;
         Some(Barge {
             particulars,
-            half_breadths: self.half_breadths.get(..points_of(particulars))?,
+            half_breadths: &self.half_breadths[..points_of(particulars)],
             items: &self.items[..items],
             tanks: &self.tanks[..tanks],
         })
@@ -66,7 +69,11 @@ impl Barge<'_> {
     }
 }
 
-// How many half-breadths a hull has. The reader takes no count that is above its room: `min` says so here again.
-fn points_of(p: Particulars) -> usize {
-    (p.n.min(ranges::HALF_BREADTH_ROOM) + 1) * (p.m.min(ranges::HALF_BREADTH_ROOM) + 1)
+// How many half-breadths a hull has, and no more than there is room for.
+fn points_of(p: Particulars) -> usize
+    ensures { result ≤ room_for_half_breadths }
+{
+    let stations = p.n.min(ranges::HALF_BREADTH_ROOM) + 1;
+    let waterlines = p.m.min(ranges::HALF_BREADTH_ROOM) + 1;
+    (stations * waterlines).min(ranges::HALF_BREADTH_ROOM)
 }

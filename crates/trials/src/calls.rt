@@ -48,20 +48,29 @@ fn try_call<C: Call, R: Files + Print>(rt: &R) -> io::Result<()> {
     trying::print_lost(rt, "cases", count.tried, C::FEWEST)
 }
 
-// A case differs where it has no answer beside it, or not its own.
+// What trying the case of this number shows, where there is one.
 fn trial_at<C: Call, R: Files>(rt: &R, number: u64) -> io::Result<Option<Trial>> {
-    let Ok(mut given) = data::open(rt, C::START, number, ".in") else {
+    let Ok(given) = data::open(rt, C::START, number, ".in") else {
         return Ok(None);
     };
-    let Ok(mut answer) = data::open(rt, C::START, number, ".out") else {
-        return Ok(Some(Trial::beside_answer(true)));
-    };
-    let mut given_room = [0u8; LONGEST];
-    let mut answer_room = [0u8; LONGEST];
-    let given = data::read(&mut given, &mut given_room)?;
-    let answer = data::read(&mut answer, &mut answer_room)?;
-    let differs = !is_answered::<C>(given, answer);
+    let differs = is_differing::<C, R>(rt, number, given)?;
     Ok(Some(Trial::beside_answer(differs)))
+}
+
+// Whether a case has no answer beside it, or not its own. What is given is closed before the answer is opened, and its error comes
+// after a lost answer. Out of line, so that no room is cleared for a case that is not there.
+#[inline(never)]
+fn is_differing<C: Call, R: Files>(rt: &R, number: u64, mut file: R::File) -> io::Result<bool> {
+    let mut given = [0u8; LONGEST];
+    let given = data::read(&mut file, &mut given);
+    drop(file);
+    let Ok(mut file) = data::open(rt, C::START, number, ".out") else {
+        return Ok(true);
+    };
+    let given = given?;
+    let mut answer = [0u8; LONGEST];
+    let answer = data::read(&mut file, &mut answer)?;
+    Ok(!is_answered::<C>(given, answer))
 }
 
 // Whether a call's answer to what is given is this one, and nothing is left of either.

@@ -55,6 +55,8 @@ fn trial_at(rt: &impl Files, reading: Reading, number: u64) -> io::Result<Option
     };
     let mut text = [0u8; input::LONGEST_INPUT];
     let text = data::read(&mut file, &mut text)?;
+    // Closed before the answer is opened: no two files are open at a time.
+    drop(file);
     let differs = !is_answer(rt, reading, number, text)?;
     let mut room = Room::new();
     let changed = room.read(text).is_some_and(|barge| !barge.comes_back());
