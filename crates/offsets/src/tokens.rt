@@ -48,7 +48,9 @@ pub(crate) fn place_after(text: &[u8], from: usize, count: usize) -> Option<usiz
 }
 
 // The place of the first byte from a place on that is no separator.
-// By an index: the library's `position` takes three instructions more for each number.
+// By an index: the library's `position` takes three instructions more for each number. Out of line: within its caller's walk the step over
+// a separator takes half as many again.
+#[inline(never)]
 fn first_byte(text: &[u8], from: usize) -> Option<usize>
     ensures { FirstByte text.now from result }
 {

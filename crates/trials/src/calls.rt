@@ -50,25 +50,26 @@ fn try_call<C: Call, R: Files + Print>(rt: &R) -> io::Result<()> {
 
 // What trying the case of this number shows, where there is one.
 fn trial_at<C: Call, R: Files>(rt: &R, number: u64) -> io::Result<Option<Trial>> {
-    let Ok(given) = data::open(rt, C::START, number, ".in") else {
+    if data::open(rt, C::START, number, ".in").is_err() {
         return Ok(None);
-    };
-    let differs = is_differing::<C, R>(rt, number, given)?;
+    }
+    let differs = is_differing::<C, R>(rt, number)?;
     Ok(Some(Trial::beside_answer(differs)))
 }
 
-// Whether a case has no answer beside it, or not its own. What is given is closed before the answer is opened, and its error comes
-// after a lost answer. Out of line, so that no room is cleared for a case that is not there.
+// Whether a case has no answer beside it, or not its own. Each file is closed before another is opened: no two are open at a time.
+// Out of line, so that no room is cleared for a case that is not there.
 #[inline(never)]
-fn is_differing<C: Call, R: Files>(rt: &R, number: u64, mut file: R::File) -> io::Result<bool> {
-    let mut given = [0u8; LONGEST];
-    let given = data::read(&mut file, &mut given);
-    drop(file);
-    let Ok(mut file) = data::open(rt, C::START, number, ".out") else {
+fn is_differing<C: Call, R: Files>(rt: &R, number: u64) -> io::Result<bool> {
+    if data::open(rt, C::START, number, ".out").is_err() {
         return Ok(true);
-    };
-    let given = given?;
+    }
+    let mut given = [0u8; LONGEST];
     let mut answer = [0u8; LONGEST];
+    let mut file = data::open(rt, C::START, number, ".in")?;
+    let given = data::read(&mut file, &mut given)?;
+    drop(file);
+    let mut file = data::open(rt, C::START, number, ".out")?;
     let answer = data::read(&mut file, &mut answer)?;
     Ok(!is_answered::<C>(given, answer))
 }
