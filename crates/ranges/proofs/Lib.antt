@@ -8,3 +8,4 @@ pub mod Longer
 pub mod Records
 pub mod Outcomes
 pub mod Numbered
+pub mod Numbers
